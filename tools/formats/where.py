@@ -1,6 +1,7 @@
 """Where a file breaks its format: the program names the kind of a fault alone, this the key, the row and the value."""
 
 import json
+import math
 import unicodedata
 from pathlib import Path
 from typing import Any, Callable, Iterator
@@ -11,6 +12,9 @@ from unicodejson.lawful import law_fault
 Rules = Callable[[dict[str, Any]], Iterator[str]]
 # Past this a number is no number of the format, whatever it is for.
 WORD64 = 1 << 63
+# How deep brackets and braces of a text may nest.
+DEEPEST = 127
+SHOWN = 40
 
 
 def font_fault(path: Path) -> str | None:
@@ -35,7 +39,7 @@ def category(character: int) -> str:
 
 def fault_of(path: Path, rules: Rules) -> str | None:
     try:
-        value = json.loads(path.read_bytes().decode("utf-8"), parse_constant=no_constant)
+        value = json.loads(path.read_bytes().decode("utf-8"), parse_constant=no_constant, parse_float=finite)
     except UnicodeDecodeError as error:
         return f"no UTF-8 at byte {error.start}"
     except json.JSONDecodeError as error:
@@ -45,6 +49,10 @@ def fault_of(path: Path, rules: Rules) -> str | None:
         return f"no JSON: {error}"
     except RecursionError:
         return "no JSON: nested too deep"
+    # The program parses all of a text before it reads a key of it.
+    unparsed = next(no_texts(value, "", 1), None)
+    if unparsed is not None:
+        return f"no JSON: {unparsed}"
     if not isinstance(value, dict):
         return "no object at the top"
     wrong = next(floats(value, ""), None)
@@ -58,6 +66,30 @@ def fault_of(path: Path, rules: Rules) -> str | None:
 
 def no_constant(word: str) -> Any:
     raise ValueError(f"{word} is no number of JSON")
+
+
+def finite(word: str) -> float:
+    number = float(word)
+    if math.isinf(number):
+        raise ValueError(f"{word[:SHOWN]} is past the range of numbers")
+    return number
+
+
+def no_texts(value: Any, where: str, depth: int) -> Iterator[str]:
+    """Texts with a half of a pair of surrogates alone, and what is nested too deep: Python takes both."""
+    if isinstance(value, str):
+        lone = next((each for each in value if "\ud800" <= each <= "\udfff"), None)
+        if lone is not None:
+            yield f"{where}: a surrogate alone (\\u{ord(lone):04x}), which is no character".removeprefix(": ")
+    elif isinstance(value, (dict, list)) and depth > DEEPEST:
+        yield f"nested deeper than {DEEPEST} brackets and braces"
+    elif isinstance(value, dict):
+        for key, part in value.items():
+            yield from no_texts(key, f"{where} a key".strip(), depth)
+            yield from no_texts(part, f"{where} {key}".strip(), depth + 1)
+    elif isinstance(value, list):
+        for at, part in enumerate(value):
+            yield from no_texts(part, f"{where}[{at}]", depth + 1)
 
 
 def floats(value: Any, where: str) -> Iterator[str]:

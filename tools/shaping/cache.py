@@ -1,6 +1,7 @@
 """Values made once for a font file, in the user's cache folder."""
 
 import contextlib
+import functools
 import hashlib
 import json
 import os
@@ -10,12 +11,16 @@ from pathlib import Path
 from typing import Any, Callable, Iterator
 
 from common.faults import FILES, ToolFault
+from common.files import faults_of, new_name, replace_by, write_new
 from common.writing import object_text
 from fontjson.variations import Place
 
 TOOLS = Path(__file__).parent.parent
 SOURCES = ("common", "fontjson", "unicodejson", "syllables", "machines")
 ENDING = ".json"
+# Bytes of a name that are kept in it; a longer one is kept by its sum. A file's name has at most 255 on most systems.
+MOST_NAME = 128
+PRIVATE = 0o600
 # The first key and the last one of a kept value: a file that was cut has not both.
 STAMP, END = "cache", "end"
 
@@ -34,7 +39,7 @@ def cache_folder() -> Iterator[Path]:
 def user_folder() -> Path | None:
     """The user's cache folder for this project, made where it is missing.
 
-    None where it can't be made or written, or belongs to somebody else, who could change what is kept there.
+    None where it can't be made or written, is a link, or belongs to somebody else, who could change what is kept there.
     """
     base = os.environ.get("XDG_CACHE_HOME") or os.path.expanduser("~/.cache")
     if not os.path.isabs(base):
@@ -42,20 +47,33 @@ def user_folder() -> Path | None:
     folder = Path(base) / "kuspveli"
     try:
         folder.mkdir(parents=True, exist_ok=True)
-        if folder.stat().st_uid != os.geteuid():
-            return None
-        folder.chmod(0o700)
+        number = os.open(folder, os.O_RDONLY | os.O_DIRECTORY | os.O_NOFOLLOW)
+        try:
+            if os.fstat(number).st_uid != os.geteuid():
+                return None
+            os.fchmod(number, 0o700)
+        finally:
+            os.close(number)
         with tempfile.TemporaryFile(dir=folder):
             return folder
     except OSError:
         return None
 
 
+@functools.cache
+def spare_folder() -> "tempfile.TemporaryDirectory[str]":
+    """A folder for this run alone, in place of one whose disk is full."""
+    return tempfile.TemporaryDirectory()
+
+
 def font_name(font: Path, index: int, place: Place | None = None) -> str:
     """The name under which a font's value is kept: that of its file, with a sum of where it is, and its coordinates."""
     where = hashlib.sha256(os.fsencode(font.resolve())).hexdigest()[:16]
     instance = "".join(f".{tag.strip()}={value:g}" for tag, value in (place or {}).items())
-    return f"{where}-{font.name}.{index}{instance}{ENDING}"
+    name = os.fsencode(f"{font.name}.{index}{instance}")
+    if len(name) > MOST_NAME:
+        return f"{where}-{hashlib.sha256(name).hexdigest()}{ENDING}"
+    return f"{where}-{os.fsdecode(name)}{ENDING}"
 
 
 def fingerprint(*parts: object) -> str:
@@ -69,10 +87,18 @@ def fingerprint(*parts: object) -> str:
 
 
 def cached(path: Path, stamp: str, make: Callable[[], dict[str, Any]]) -> Path:
-    """The file with the value of that stamp, made where it is not there, is another, or was cut."""
-    if not has_stamp(path, stamp):
-        write_whole(path, {STAMP: stamp, **make(), END: stamp})
-    return path
+    """The file with the value of that stamp, made where it is not there, is another, or was cut. Where it can't be written
+    it is made for this run alone."""
+    if has_stamp(path, stamp):
+        return path
+    content = object_text({STAMP: stamp, **make(), END: stamp}).encode()
+    try:
+        write_whole(path, content)
+        return path
+    except OSError:
+        spare = Path(spare_folder().name) / path.name
+        write_whole(spare, content)
+        return spare
 
 
 def has_stamp(path: Path, stamp: str) -> bool:
@@ -94,23 +120,18 @@ def has_stamp(path: Path, stamp: str) -> bool:
         return False
 
 
-def write_whole(path: Path, value: dict[str, Any]) -> None:
+def write_whole(path: Path, content: bytes) -> None:
     """Writes a file under another name first, so that no half of it is ever read, whoever else writes it.
 
     What has the name already is replaced, but for a folder with files in it.
     """
-    if path.is_dir() and not path.is_symlink():
-        if any(path.iterdir()):
-            raise ToolFault(FILES, f"{path}: a folder where a value is to be kept: remove it")
-        path.rmdir()
-    with tempfile.NamedTemporaryFile("w", dir=path.parent, suffix=ENDING, delete=False, encoding="utf-8") as file:
-        try:
-            file.write(object_text(value))
-            file.close()
-            os.replace(file.name, path)
-        except BaseException:
-            os.unlink(file.name)
-            raise
+    with faults_of(path):
+        if path.is_dir() and not path.is_symlink():
+            if any(path.iterdir()):
+                raise ToolFault(FILES, f"{path}: a folder where a value is to be kept: remove it")
+            path.rmdir()
+        new = str(path.with_name(new_name()))
+        replace_by(new, str(path), None, lambda: write_new(new, content, PRIVATE))
 
 
 def part_of(path: Path, key: str, usual: Any) -> Any:

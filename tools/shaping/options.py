@@ -239,10 +239,13 @@ def read_words(words: list[str]) -> Given:
     rest = list(words)
     while rest:
         word = rest.pop(0)
+        if word == "--":
+            files += rest
+            break
         short = SHORT_NAMES.get(word[:2])
         if short is not None:
             word = f"--{short}={word[2:]}" if word[2:] else f"--{short}"
-        if not word.startswith("--") or word == "--":
+        if not word.startswith("--"):
             files.append(word)
             continue
         name, mark, value = word.removeprefix("--").partition("=")

@@ -15,6 +15,8 @@ from fontjson.variations import Place
 from shaping.glyphs import Glyph
 from shaping.texts import name_of
 
+# The units of the em (OpenType, head.unitsPerEm), and those that are taken where a font has others.
+LEAST_UPEM, MOST_UPEM, USUAL_UPEM = 16, 16384, 1000
 # Sizes in parts of an em.
 MARGIN, LABEL, GAP = 0.3, 0.16, 0.5
 COLOURS = ("#1b4f72", "#a04000", "#196f3d", "#6c3483", "#7b7d7d", "#922b21")
@@ -111,7 +113,7 @@ class Outlines:
             self.source.take_instance(place)
         self.glyphs = drawn_glyphs(self.source.font)
         self.names = self.source.font.getGlyphOrder()
-        self.upem = self.source.font["head"].unitsPerEm
+        self.upem = drawn_upem(self.source.font["head"].unitsPerEm)
 
     def drawn(self, glyph: int) -> Drawn:
         from fontTools.pens.recordingPen import DecomposingRecordingPen
@@ -135,6 +137,12 @@ class Outlines:
 
     def name(self, glyph: int) -> str:
         return str(self.names[glyph]) if glyph < len(self.names) else f"gid{glyph}"
+
+
+def drawn_upem(upem: int) -> int:
+    """The units of the em by which a picture is drawn: those of a font that says none of the range that OpenType has for
+    them are taken for 1,000, as in HarfBuzz (hb_face_get_upem)."""
+    return upem if LEAST_UPEM <= upem <= MOST_UPEM else USUAL_UPEM
 
 
 def placed(glyphs: list[Glyph]) -> list[Placed]:

@@ -1,6 +1,7 @@
 """From a font file to a line: words, what the program is given, the cache, faults, and where it is built its lines."""
 
 import contextlib
+import errno
 import importlib.util
 import io
 import json
@@ -25,12 +26,13 @@ from fontTools.ttLib import TTFont
 from fontTools.ttLib.tables.DefaultTable import DefaultTable
 from formats.rules import font_faults
 from formats.where import font_fault, tables_fault
-from shaping import cli
+from shaping import cache, cli
+from shaping.cli import SHIPPED
 from shaping.context import feature, load
 from shaping.glyphs import Glyph, as_json, read_line, text_of
 from shaping.locales import language_of
 from shaping.options import OPTIONS, Given, read_words, usage
-from shaping.picture import BASELINE, MARGIN, clusters_of, picture, placed, width_of
+from shaping.picture import BASELINE, MARGIN, clusters_of, drawn_upem, picture, placed, width_of
 from shaping.png import PIXELS, png
 from shaping.svg import svg
 from shaping.texts import Text, lack_notes, lacking
@@ -168,23 +170,23 @@ class Commands(unittest.TestCase):
     def test_cache(self) -> None:
         """Made once; anew where the font changes, or the kept value is cut, is another, or no JSON."""
         self.shape("a")
-        cache = self.kept()
-        made = cache.stat().st_ino
+        kept = self.kept()
+        made = kept.stat().st_ino
         self.shape("b")
-        self.assertEqual(cache.stat().st_ino, made)
+        self.assertEqual(kept.stat().st_ino, made)
         os.utime(self.font, (1, 1))
         self.shape("a")
-        self.assertNotEqual(cache.stat().st_ino, made)
-        whole = cache.read_bytes()
+        self.assertNotEqual(kept.stat().st_ino, made)
+        whole = kept.read_bytes()
         for broken in (b"", b"{\n", b"\xff", b'{\n"cache":"x"}', whole[: len(whole) // 2], whole[:-3]):
-            cache.write_bytes(broken)
+            kept.write_bytes(broken)
             self.shape("a")
-            json.loads(cache.read_text())
-        cache.write_bytes(whole.replace(b'"upem":', b'"upem";'))
+            json.loads(kept.read_text())
+        kept.write_bytes(whole.replace(b'"upem":', b'"upem";'))
         status, _, told = self.shape("3")
         self.assertEqual(status, 3)
-        json.loads(cache.read_text())
-        self.assertEqual(sorted(self.cache.iterdir()), sorted([cache, self.cache / "tables.json"]))
+        json.loads(kept.read_text())
+        self.assertEqual(sorted(self.cache.iterdir()), sorted([kept, self.cache / "tables.json"]))
 
     def test_two_runs(self) -> None:
         """Runs at once make the same files, and leave no others."""
@@ -197,6 +199,55 @@ class Commands(unittest.TestCase):
         self.assertEqual(shown.getvalue(), NAMED * 3)
         self.assertEqual(len(list(self.cache.iterdir())), 2)
         json.loads(self.kept().read_text())
+
+    def test_long_names(self) -> None:
+        """A file's name as long as the system has them, and an instance with many coordinates, are kept by their sums."""
+        names = {cache.font_name(Path("x" * size + ".ttf"), 0) for size in (100, 200, 251)}
+        place = {f"AX{number:02}": number + 0.5 for number in range(30)}
+        names |= {cache.font_name(Path("x.ttf"), 0, {**place, "AX00": value}) for value in (1.0, 2.0)}
+        self.assertEqual(len(names), 5)
+        self.assertLess(max(map(len, names)), 200)
+        self.font = self.font.rename(self.font.with_name("x" * 251 + ".ttf"))
+        self.assertEqual(self.shape("a")[:2], (0, NAMED))
+
+    def test_full_cache(self) -> None:
+        """Where the cache's disk is full, values are made for the run alone."""
+        real = cache.write_whole
+
+        def full(path: Path, content: bytes) -> None:
+            if path.parent == self.cache:
+                raise OSError(errno.ENOSPC, "full", str(path))
+            real(path, content)
+
+        with mock.patch.object(cache, "write_whole", full):
+            self.assertEqual(self.shape("a")[:2], (0, NAMED))
+        self.assertEqual(list(self.cache.iterdir()), [])
+
+    def test_link_for_cache(self) -> None:
+        """A link in the place of the cache's folder is not followed."""
+        other = self.folder / "other"
+        other.mkdir(mode=0o755)
+        self.cache.parent.mkdir()
+        self.cache.symlink_to(other)
+        self.assertEqual(self.shape("a")[:2], (0, NAMED))
+        self.assertEqual((list(other.iterdir()), other.stat().st_mode & 0o777), ([], 0o755))
+
+    def test_files_after_hyphens(self) -> None:
+        """After -- words are a font and a text, whatever they begin with."""
+        for words in (["--", str(self.font), "--bot"], ["--bot", "--", str(self.font), "-u"]):
+            with contextlib.redirect_stderr(io.StringIO()), contextlib.redirect_stdout(io.StringIO()) as shown:
+                self.assertEqual(cli.main(words), 0)
+            self.assertEqual(shown.getvalue(), NAMED)
+            self.assertEqual((self.folder / "text").read_text(), f"{words[-1]}\n")
+
+    def test_no_units(self) -> None:
+        """A font whose units of the em are none is drawn by 1,000, as HarfBuzz takes them."""
+        self.assertEqual([drawn_upem(upem) for upem in (0, 15, 16, 2048, 16384, 16385)], [1000, 1000, 16, 2048, 16384, 1000])
+        with TTFont(self.font) as font:
+            font["head"].unitsPerEm = 0
+            font.save(self.font)
+        for kind in ("svg", "png") if importlib.util.find_spec("cairo") else ("svg",):
+            self.assertEqual(self.shape("of", f"--{kind}={self.folder / 'of'}")[0], 0)
 
     def test_no_folder(self) -> None:
         """Without a folder that can be written, or a home, values are made for the run alone."""
@@ -575,6 +626,33 @@ def hb_shape(text: str, *options: str) -> str:
     command = ["hb-shape", "--utf8-clusters", *options, DEJAVU, f"--text={text}"]
     line = subprocess.run(command, capture_output=True, text=True, check=True).stdout.strip()
     return (line if line.startswith("[{") else line.strip("[]")) + "\n"
+
+
+class Unparsed(unittest.TestCase):
+    """What is no JSON text is told before what is wrong with its rows, as the program reads it."""
+
+    ROWS = {
+        '{"cmap":[[97,1],[97,2]],"names":[[1,"\\ud800"]]}': "no JSON: names[0][1]: a surrogate alone (\\ud800)",
+        '{"cmap":[[97,1],[97,2]],"\\udc00":1}': "no JSON: a key: a surrogate alone (\\udc00)",
+        '{"cmap":[[97,1],[97,2]],"x":' + "[" * 127 + "]" * 127 + "}": "no JSON: nested deeper than 127",
+        '{"cmap":[[97,1],[97,2]],"x":1E400}': "no JSON: 1E400 is past the range",
+        '{"cmap":[[97,1],[97,2]],"x":' + "[" * 126 + "]" * 126 + "}": "cmap[1]: 97 is not above 97",
+        '{"cmap":[[97,1],[97,2]],"x":"\\ud83d\\ude00"}': "cmap[1]: 97 is not above 97",
+    }
+
+    def test_reasons(self) -> None:
+        with tempfile.TemporaryDirectory() as folder:
+            font, text = Path(folder) / "font.json", Path(folder) / "text"
+            text.write_text("a")
+            for value, says in self.ROWS.items():
+                font.write_text(value)
+                self.assertIn(says, font_fault(font) or "", value)
+                place = standing(PROGRAM)
+                if place.is_current():
+                    words: list[str | Path] = [place.file, SHIPPED, font, text]
+                    ran = subprocess.run(words, capture_output=True, text=True, check=False)
+                    fault = "J1 NotJson" if says.startswith("no JSON") else "U1 OutOfOrder"
+                    self.assertEqual(ran.stderr, f"hb_shape: {fault}\n", value)
 
 
 if __name__ == "__main__":
