@@ -25,7 +25,7 @@ def check_sizes(font: Any) -> dict[str, tuple[int, int]]:
     for tag in LAYOUT + (VARIATIONS if "fvar" in font else ()):
         if tag in font:
             size, records = check_layout(tag, font.reader[tag])
-            found[f"{tag}: rows"] = size.rows, limits.MOST_ROWS
+            found[f"{tag}: rows"] = size.rows, limits.most_rows(len(font.reader[tag]))
             found[f"{tag}: subtables"] = size.subtables, limits.MOST_SUBTABLES
             found[f"{tag}: records"] = records, limits.MOST_RECORDS
     if "glyf" in font and "loca" in font:

@@ -23,7 +23,7 @@ from fontTools.ttLib.tables.otConverters import (
     VarIdxMapValue,
 )
 
-from fontjson.limits import MOST_RECORDS, MOST_ROWS, MOST_SUBTABLES, refuse
+from fontjson.limits import MOST_RECORDS, MOST_SUBTABLES, most_rows, refuse
 
 # Formats of value records: a bit for each field of two bytes, these for offsets of device tables.
 DEVICES = 0xF0
@@ -60,6 +60,7 @@ class Walk:
     def __init__(self, tag: str, data: bytes) -> None:
         self.tag = tag
         self.data = data
+        self.most_rows = most_rows(len(data))
         self.known: dict[tuple[Any, int, State], Size] = {}
         self.steps = 0
 
@@ -74,8 +75,8 @@ class Walk:
         return int.from_bytes(self.data[at : at + length], "big")
 
     def within(self, size: Size) -> Size:
-        if size.rows > MOST_ROWS:
-            raise refuse(f"table {self.tag}: more than {MOST_ROWS:,} rows")
+        if size.rows > self.most_rows:
+            raise refuse(f"table {self.tag}: more than {self.most_rows:,} rows in {len(self.data):,} bytes")
         if size.subtables > MOST_SUBTABLES:
             raise refuse(f"table {self.tag}: more than {MOST_SUBTABLES:,} subtables")
         return size

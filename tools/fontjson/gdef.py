@@ -2,7 +2,7 @@
 
 from typing import Any
 
-from fontjson.numbers import Row, rising
+from fontjson.numbers import Row, in_range, rising
 from fontjson.source import Source
 
 GREATEST_ATTACHMENT = 255
@@ -30,7 +30,8 @@ def class_rows(source: Source, classes: Any, where: str) -> list[Row]:
     if classes is None:
         return []
     rows = [[source.glyph(name), number] for name, number in classes.classDefs.items() if number != 0]
-    return rising(rows, 1, source.notes, where)
+    # A list from a glyph on may have more classes than there are numbers of glyphs after it.
+    return rising(in_range(rows, 0, source.notes, f"{where}: glyphs"), 1, source.notes, where)
 
 
 def attachments(source: Source, classes: Any) -> list[Row]:

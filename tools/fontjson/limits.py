@@ -20,8 +20,11 @@ MOST_NAME_BYTES = 1 << 24
 # Subtables of cmap, and the characters and variants of all of them: those of Unicode once, and more.
 MOST_SUBTABLES_OF_CMAP = 64
 MOST_CHARACTERS = 5 << 18
-# Of each of GDEF, GSUB and GPOS: rows, subtables of lookups, and records that are not alike.
+# Of each of GDEF, GSUB and GPOS: rows, some and more for each byte of the table, subtables of lookups, and records that
+# are not alike.
 MOST_ROWS = 1 << 22
+FREE_ROWS = 1 << 19
+MOST_ROWS_FOR_BYTE = 16
 MOST_SUBTABLES = 1 << 16
 MOST_RECORDS = 1 << 18
 # Of glyf: points of all outlines; points, parts and levels of a glyph with its parts.
@@ -41,6 +44,11 @@ MOST_MEMORY = 2 << 30
 MOST_SECONDS = 300
 # How much of fontTools' message is told.
 SHOWN = 200
+
+
+def most_rows(size: int) -> int:
+    """The rows that a table of so many bytes may have."""
+    return min(MOST_ROWS, FREE_ROWS + MOST_ROWS_FOR_BYTE * size)
 
 
 class Refused(Exception):

@@ -10,7 +10,7 @@ from fontTools.pens.boundsPen import ControlBoundsPen
 
 from fontjson.drawing import drawn_glyphs
 from fontjson.limits import begin_worker
-from fontjson.numbers import Row, batches, is_value, rising
+from fontjson.numbers import Row, batches, in_range, is_value, rising
 from fontjson.source import Source
 
 USE_TYPO_METRICS = 1 << 7
@@ -71,7 +71,8 @@ def characters(source: Source, glyphs: dict[int, str]) -> list[Row]:
             source.notes.left_out("cmap: numbers that are no characters")
         elif source.glyph(name) != 0:
             rows.append([character, source.glyph(name)])
-    return rows
+    # Formats 8 to 13 have numbers of 32 bits.
+    return in_range(rows, 1, source.notes, "cmap: glyphs")
 
 
 def is_character(number: int) -> bool:
@@ -100,7 +101,7 @@ def variant_rows(source: Source, cmap: list[Row]) -> list[Row]:
                 glyph = usual.get(character) if name is None else source.glyph(name)
                 if glyph is not None:
                     rows.append([character, selector, glyph])
-    return rising(rows, 2, source.notes, "variants")
+    return rising(in_range(rows, 2, source.notes, "variants: glyphs"), 2, source.notes, "variants")
 
 
 def advance_rows(source: Source, table: str) -> list[Row]:
@@ -108,7 +109,8 @@ def advance_rows(source: Source, table: str) -> list[Row]:
     if not source.has(table):
         return []
     metrics = source.font[table].metrics
-    return [[glyph, metrics[name][0]] for glyph, name in enumerate(source.font.getGlyphOrder()) if name in metrics]
+    rows = [[glyph, metrics[name][0]] for glyph, name in enumerate(source.font.getGlyphOrder()) if name in metrics]
+    return in_range(rows, 1, source.notes, f"{table}: advances")
 
 
 def vertical_rows(source: Source) -> list[Row]:
