@@ -32,7 +32,8 @@ status is 1 where there is one.
 
 With --laying and --traced vendor and install run instead of the program: in random trees, some of which are laid
 against them, and in runs that are ended at a call of the system. Nothing outside may change, nothing be half, and what
-was ended has to be completed by a second run.
+was ended has to be completed by a second run. With --fonts font_to_json converts damaged fonts, and what it writes has
+to follow the format and is given to the program.
 
 With --in-process many cases run in one process: the program shape_trials reads fonts, settings and texts, shapes each
 text in several ways, and tests what the contracts promise of the answers. A line is printed for each case whose answer
@@ -62,6 +63,7 @@ def parser() -> argparse.ArgumentParser:
     words.add_argument("--plant", choices=PLANTS, help="a bug that cases in one process have to find")
     words.add_argument("--laying", action="store_true", help="random trees for vendor and install, instead of the program")
     words.add_argument("--traced", action="store_true", help="their runs, ended at calls of the system by strace")
+    words.add_argument("--fonts", action="store_true", help="damaged fonts, converted by font_to_json for the program")
     words.add_argument("--seconds", type=float, metavar="S", help="stop after S seconds")
     words.add_argument("--cases", type=int, metavar="N", help="stop after N cases (10,000 where nothing is given)")
     words.add_argument("--jobs", type=int, default=1, metavar="N", help="processes side by side (1)")
@@ -82,10 +84,10 @@ def main(given: list[str]) -> int:
     options = parser().parse_args(given)
     if options.plant is not None:
         return run_plant(options)
-    if options.laying or options.traced:
-        from fuzzing.laying_cli import run_laying
+    if options.laying or options.traced or options.fonts:
+        from fuzzing import many
 
-        return run_laying(options)
+        return (many.run_laying if options.laying else many.run_traced if options.traced else many.run_fonts)(options)
     if options.program is None:
         options.program = ready_trials(NAME) if options.in_process else standing(PROGRAM).file
     for program in filter(None, (options.program, options.against)):

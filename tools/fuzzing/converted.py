@@ -2,6 +2,7 @@
 
 import functools
 import io
+import logging
 import subprocess
 from pathlib import Path
 from random import Random
@@ -34,6 +35,7 @@ def needed() -> list[Path]:
 @functools.cache
 def small_fonts() -> tuple[bytes, ...]:
     """Fonts of some glyphs with all features, and one with outlines of CFF and a table kern."""
+    logging.getLogger("fontTools").setLevel(logging.CRITICAL)
     missing = [path for path in needed() if not path.is_file()]
     if missing:
         raise ToolFault(FILES, f"apt-get install fonts-dejavu-core fonts-noto-core: {missing[0]} is not there")
@@ -137,9 +139,3 @@ def try_font(program: Path | None, seed: int, number: int, folder: Path) -> tupl
         if ran.returncode not in (0, 5):
             wrong.append(f"status {ran.returncode}: {ran.stderr.strip()}")
     return "written", wrong
-
-
-def try_in_memory(program: Path | None, seed: int, number: int) -> tuple[str, list[str]]:
-    memory = Path("/dev/shm")
-    with tempfile.TemporaryDirectory(prefix="fonts-", dir=memory if memory.is_dir() else None) as folder:
-        return try_font(program, seed, number, Path(folder))

@@ -374,8 +374,9 @@ def draw_world(draw: Random, folder: Path) -> Step:
     return step
 
 
-def try_case(seed: int, number: int, folder: Path) -> list[str]:
-    """A case by its number: a run in a random world, one that is ended in a copy of it, and what follows; what is wrong."""
+def try_case(seed: int, number: int, folder: Path) -> tuple[str, list[str]]:
+    """A case by its number: a run in a random world, one that is ended in a copy of it, and what follows; how the first one
+    ended, and what is wrong."""
     draw = Random(f"{seed} {number}")
     first = folder / "first"
     shutil.rmtree(first, ignore_errors=True)
@@ -384,7 +385,7 @@ def try_case(seed: int, number: int, folder: Path) -> list[str]:
     counted = Calls()
     ended, wrong = tried(step, first, breaking_by(counted))
     calls = Calls(draw.randrange(1, counted.count + 1) if counted.count else 1, draw.choice(ENDINGS))
-    return [*wrong, *ended_case(step, first, other, ended, breaking_by(calls))]
+    return f"{step.kind} {ended}", [*wrong, *ended_case(step, first, other, ended, breaking_by(calls))]
 
 
 def ended_case(step: Step, first: Path, other: Path, ended: str, how: Breaking) -> Iterator[str]:

@@ -173,10 +173,10 @@ def world_of(before: tuple[Step, ...], folder: Path) -> Path:
     return folder
 
 
-def try_point(case: Case, folder: Path) -> list[str]:
-    """What is wrong with a run that is ended at a call, and with those after it."""
+def try_point(case: Case, folder: Path) -> tuple[str, list[str]]:
+    """What a run is ended by, and what is wrong with it and with those after it."""
     *before, step = case.steps
     first = world_of(tuple(before), folder / "first")
     other = copied(first, folder / "other")
     ended, wrong = tried(step, first)
-    return [*wrong, *ended_case(step, first, other, ended, breaking_at(case.point, case.ending))]
+    return case.ending, [*wrong, *ended_case(step, first, other, ended, breaking_at(case.point, case.ending))]

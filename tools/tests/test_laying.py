@@ -12,7 +12,7 @@ from common.below import Below
 from common.faults import ToolFault
 from common.plan import Listed, Tops, read_list
 from fuzzing import laying, traced
-from fuzzing.laying_cli import work_folder
+from fuzzing.many import work_folder
 from fuzzing.laying import ENDINGS, INSTALL, TO, UNINSTALL, VENDOR, Calls, Step, breaking_by, copied, ended_case, make_world, run_step, tried
 
 CASES, POINTS = 40, 6
@@ -26,7 +26,7 @@ class Worlds(unittest.TestCase):
     def test_random_trees(self) -> None:
         """The first cases of one seed; tools/fuzz --laying runs more."""
         for number in range(CASES):
-            self.assertEqual(laying.try_case(4, number, self.folder), [], number)
+            self.assertEqual(laying.try_case(4, number, self.folder)[1], [], number)
 
     def test_each_call(self) -> None:
         """An install over an older one, its removal and a vendoring, each ended at each of its calls, one in some of them."""
@@ -52,7 +52,7 @@ class Worlds(unittest.TestCase):
     def test_traced(self) -> None:
         """Processes that are ended at a call; tools/fuzz --traced tries more."""
         for case in traced.chosen(self.folder, POINTS, 1):
-            self.assertEqual(traced.try_point(case, self.folder), [], case)
+            self.assertEqual(traced.try_point(case, self.folder)[1], [], case)
 
     def test_judged(self) -> None:
         """A tool that writes outside, takes what isn't listed, or leaves half a file is found."""
