@@ -5,6 +5,7 @@ import enum
 import os
 import re
 import threading
+import weakref
 from array import array
 from itertools import accumulate
 from typing import Any, Callable, Iterable, Mapping, NamedTuple, Optional, Union
@@ -112,6 +113,90 @@ def version() -> tuple[int, int, int]:
     """The version of the library that was loaded."""
     number = LIBRARY.kus_version()
     return number >> 16, number >> 8 & 0xFF, number & 0xFF
+
+
+def check_version(found: tuple[int, int, int]) -> None:
+    """Refuses a library of other calls: those of one first number are alike, before 1.0 those of one second number too."""
+    own = tuple(map(int, __version__.split(".")))
+    count = 1 if own[0] else 2
+    if found[:count] != own[:count]:
+        told = f"the library is of version {'.'.join(map(str, found))}, and kuspveli.py of {__version__}"
+        raise ImportError(f"{LIBRARY._name}: {told}: {kuspveli_library.BUILT_BY}")
+
+
+check_version(version())
+
+
+# ---- the stack
+
+# Bytes of the stack that a call which reads tables or a font needs, and any other (include/kuspveli.h), and what Python
+# itself takes of a thread's before.
+READING, SHAPING, PYTHON = 384 << 10, 128 << 10, 64 << 10
+
+
+class Thread(threading.local):
+    """What is known of a thread: the size of its stack in bytes, None where the system doesn't say."""
+
+    def __init__(self) -> None:
+        self.stack = stack_of_thread()
+
+
+def stack_of_thread() -> Optional[int]:
+    """The size of this thread's stack, by the C library (pthread_getattr_np)."""
+    calls = ctypes.CDLL(None)
+    if not hasattr(calls, "pthread_getattr_np"):
+        return None
+    # More than a pthread_attr_t has.
+    attributes, start, size = ctypes.create_string_buffer(256), ctypes.c_void_p(), ctypes.c_size_t()
+    calls.pthread_self.restype, calls.pthread_getattr_np.argtypes = ctypes.c_void_p, [ctypes.c_void_p, ctypes.c_char_p]
+    if calls.pthread_getattr_np(calls.pthread_self(), attributes):
+        return None
+    failed = calls.pthread_attr_getstack(attributes, ctypes.byref(start), ctypes.byref(size))
+    calls.pthread_attr_destroy(attributes)
+    return None if failed else size.value
+
+
+THREAD = Thread()
+
+
+def need_stack(needed: int) -> None:
+    """Refuses a thread whose stack is too small: a call would end the process there."""
+    if THREAD.stack is not None and THREAD.stack < needed + PYTHON:
+        has = f"the stack of this thread has {THREAD.stack >> 10} KiB, and the call needs {(needed + PYTHON) >> 10}"
+        raise RuntimeError(f"{has}: threading.stack_size({READING + PYTHON}) or more, before the thread is made")
+
+
+# ---- forks
+
+
+class Handles:
+    """The handles of this process. A fork waits for the calls of other threads, so that a child has none that is worked
+    on, and no lock that nobody opens."""
+
+    def __init__(self) -> None:
+        self.lock = threading.RLock()
+        self.all: "weakref.WeakSet[Held]" = weakref.WeakSet()
+        self.held: list[Any] = []
+        os.register_at_fork(before=self.stop, after_in_parent=self.go_on, after_in_child=self.go_on)
+
+    def add(self, handle: "Held") -> None:
+        with self.lock:
+            self.all.add(handle)
+
+    def stop(self) -> None:
+        self.lock.acquire()
+        # A font's call may wait for its tables, and not the other way round.
+        for handle in sorted(self.all, key=lambda each: isinstance(each, Tables)):
+            handle._lock.acquire()
+            self.held.append(handle)
+
+    def go_on(self) -> None:
+        while self.held:
+            self.held.pop()._lock.release()
+        self.lock.release()
+
+
+HANDLES = Handles()
 
 
 class Fault(Exception):
@@ -266,22 +351,24 @@ def number(value: int, what: str, most: int = 0xFFFF_FFFF) -> int:
     """A number from 0 to `most`."""
     if not isinstance(value, int):
         raise TypeError(f"{what}: {value!r} is no number")
-    if not 0 <= value <= most:
-        raise ValueError(f"{what}: {value} is not from 0 to {most}")
-    return int(value)
+    plain = int.__index__(value)
+    if not 0 <= plain <= most:
+        raise ValueError(f"{what}: {plain} is not from 0 to {most}")
+    return plain
 
 
 def utf8(text: Text, what: str) -> bytes:
     """The bytes of a text: a str is encoded, and other bytes are taken as they are."""
-    if isinstance(text, bytes):
+    if type(text) is bytes:
         return text
     if isinstance(text, str):
         try:
-            return text.encode()
+            return str.encode(text)
         except UnicodeEncodeError as error:
             raise ValueError(f"{what}: the surrogate at {error.start} is no character") from None
-    if isinstance(text, (bytearray, memoryview)):
-        return bytes(text)
+    if isinstance(text, (bytes, bytearray, memoryview)):
+        # By the buffer, whose length no class can tell otherwise.
+        return memoryview(text).tobytes()
     raise TypeError(f"{what}: {type(text).__name__} is no str, bytes, bytearray or memoryview")
 
 
@@ -294,8 +381,8 @@ def direction_number(direction: str) -> int:
 
 def flags_number(flags: int) -> int:
     if number(flags, "flags") & ~ALL_FLAGS:
-        raise ValueError(f"flags: {int(flags):#x} has a bit that no flag has")
-    return int(flags)
+        raise ValueError(f"flags: {int.__index__(flags):#x} has a bit that no flag has")
+    return number(flags, "flags")
 
 
 def character_indices(text: bytes) -> Optional["array[int]"]:
@@ -315,11 +402,15 @@ class Held:
     _reference: Callable[..., int]
 
     def __init__(self) -> None:
-        self._handle = Handle()
-        self._lock = threading.RLock()
+        # Where it is called again, the handle stays, and a call that reads into it frees what it had.
+        if not hasattr(self, "_lock"):
+            self._handle = Handle()
+            self._lock = threading.RLock()
+            HANDLES.add(self)
 
     def another(self) -> "Held":
         """The same for another thread, which shares what was read."""
+        need_stack(SHAPING)
         other = type(self).__new__(type(self))
         Held.__init__(other)
         with self._lock:
@@ -359,8 +450,10 @@ class Tables(Held):
 
     def __init__(self, json: Text) -> None:
         super().__init__()
+        need_stack(READING)
         read = utf8(json, "tables")
-        check(LIBRARY.kus_tables_create(self._handle, read, len(read)))
+        with self._lock:
+            check(LIBRARY.kus_tables_create(self._handle, read, len(read)))
 
 
 class Font(Held):
@@ -372,13 +465,15 @@ class Font(Held):
 
     def __init__(self, tables: Union[Tables, Text], json: Text) -> None:
         super().__init__()
+        need_stack(READING)
         read = utf8(json, "font")
         if isinstance(tables, Tables):
-            with tables._lock:
+            with self._lock, tables._lock:
                 check(LIBRARY.kus_font_create_with_tables(self._handle, tables._handle, read, len(read)))
         else:
             both = utf8(tables, "tables")
-            check(LIBRARY.kus_font_create(self._handle, both, len(both), read, len(read)))
+            with self._lock:
+                check(LIBRARY.kus_font_create(self._handle, both, len(both), read, len(read)))
 
     # -- texts
 
@@ -424,6 +519,7 @@ class Font(Held):
             return tag_text(LIBRARY.kus_get_script(self._handle))
 
     def _shaped(self, raw: RawText, own: bytes) -> Arrays:
+        need_stack(SHAPING)
         room = max(64, len(own))
         infos, positions, count = (RawInfo * room)(), (RawPosition * room)(), ctypes.c_size_t()
         check(LIBRARY.kus_shape(self._handle, raw, infos, room, positions, room, count))

@@ -2,6 +2,7 @@
 an installed one."""
 
 import os
+import stat
 import sys
 from pathlib import Path
 from typing import Iterator, Optional
@@ -33,16 +34,21 @@ def find() -> str:
                 print(f"kuspveli: unproved: {path}; tools/build_library proves and builds it", file=sys.stderr)
             return str(path)
     sought = ", ".join(dict.fromkeys(str(path.parent) for path in places()))
-    raise ImportError(f"{LIBRARY} is not there: {BUILT_BY}, and {VARIABLE} names another file (sought in {sought})")
+    noted = noted_clone()
+    unsafe = [str(path) for path in (built_places(noted) if noted else []) if path.is_file() and not is_safe(path)]
+    passed = f"; passed over, since others may write there: {', '.join(unsafe)}" if unsafe else ""
+    raise ImportError(f"{LIBRARY} is not there: {BUILT_BY}, and {VARIABLE} names another file (sought in {sought}{passed})")
 
 
 def places() -> Iterator[Path]:
     """Where the library may be, the first ones first."""
     yield HERE / FOLDER / LIBRARY
     yield HERE / FOLDER / UNPROVED / LIBRARY
-    root = clone()
+    root, noted = clone(), noted_clone()
     if root is not None:
         yield from built_places(root)
+    elif noted is not None:
+        yield from filter(is_safe, built_places(noted))
     if (HERE.parent.parent / INSTALLED).is_file():
         yield HERE.parent.parent.parent / LIBRARY
     for folder in os.environ.get("LD_LIBRARY_PATH", "").split(":"):
@@ -53,12 +59,30 @@ def places() -> Iterator[Path]:
 
 
 def clone() -> Optional[Path]:
-    """The clone that this file stands in, or that pip made it of."""
+    """The clone that this file stands in."""
     root = HERE.parent.parent
-    if (root / "tools" / "build_library").is_file():
-        return root
+    return root if (root / "tools" / "build_library").is_file() else None
+
+
+def noted_clone() -> Optional[Path]:
+    """The clone that pip made this file of. It may be gone, and its path somebody else's by now."""
     noted = HERE / FOLDER / CLONE
     return Path(os.fsdecode(noted.read_bytes().rstrip(b"\n"))) if noted.is_file() else None
+
+
+def is_safe(path: Path) -> bool:
+    """Whether nobody else can have put a library there: each folder above it belongs to root, to this user or to who
+    owns this file, and no other one may write to it, unless what is in it stays its owner's (as in /tmp)."""
+    users = {0, os.geteuid(), HERE.stat().st_uid}
+    try:
+        for each in (path, *path.parents):
+            found = each.lstat()
+            is_open = found.st_mode & (stat.S_IWGRP | stat.S_IWOTH) and not found.st_mode & stat.S_ISVTX
+            if found.st_uid not in users or stat.S_ISLNK(found.st_mode) or is_open:
+                return False
+    except OSError:
+        return False
+    return True
 
 
 def built_places(root: Path) -> list[Path]:

@@ -54,7 +54,7 @@ def metric_keys(source: Source, wanted: set[str]) -> dict[str, Any]:
     boxes = metrics.boxes(source) if wanted & {"origins", "extents"} else {}
     makers = {
         "upem": lambda: metrics.units_per_em(source),
-        "ascender": lambda: metrics.ascender(source),
+        "ascender": lambda: metrics.ascender_in_range(source),
         "cmap": lambda: cmap,
         "variants": lambda: metrics.variant_rows(source, cmap),
         "h": lambda: metrics.advance_rows(source, "hmtx"),

@@ -32,6 +32,15 @@ def ascender(source: Source) -> int:
     return line_metric(source, "sTypoAscender", "ascent", "usWinAscent", 1)
 
 
+def ascender_in_range(source: Source) -> int | list[Row]:
+    """The ascender as a key's value, nothing where it doesn't fit: one of Windows has 16 bits without a sign."""
+    height = ascender(source)
+    if is_value(height):
+        return height
+    source.notes.left_out("ascender: a height past 16 bits")
+    return []
+
+
 def descender(source: Source) -> int:
     return line_metric(source, "sTypoDescender", "descent", "usWinDescent", -1)
 

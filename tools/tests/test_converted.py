@@ -14,6 +14,7 @@ from common.notes import Notes
 from fontjson.cli import read_font
 from fontjson.keep import Kept
 from fontjson.limits import FREE_ROWS, MOST_ROWS, most_rows
+from fontTools.fontBuilder import FontBuilder
 from fontTools.ttLib import TTFont
 from fontTools.ttLib.tables._c_m_a_p import CmapSubtable
 from fontTools.ttLib.tables.DefaultTable import DefaultTable
@@ -62,6 +63,16 @@ class Converted(unittest.TestCase):
         self.assertEqual(value["gdef"], {"classes": [[65534, 1], [65535, 2]]})
         self.assertEqual(notes.counts["GDEF classes: glyphs past 65,535"], 1)
         self.assertEqual(list(font_faults(value)), [])
+
+    def test_ascender(self) -> None:
+        """Where hhea and OS/2's typographic one are 0, that of Windows is taken, which may be past 16 bits with a sign."""
+        for height, wanted in ((32767, 32767), (32768, None)):
+            font = plain()
+            FontBuilder(font=font).setupOS2(sTypoAscender=0, usWinAscent=height)
+            font["hhea"].ascent = 0
+            value, notes = self.value(saved(font))
+            self.assertEqual(value.get("ascender"), wanted)
+            self.assertEqual(notes.counts["ascender: a height past 16 bits"], int(wanted is None))
 
     def test_rows_by_bytes(self) -> None:
         """A small table has fewer rows: eight lookups of all glyphs are read, nine aren't."""

@@ -35,11 +35,13 @@ def without_library() -> dict[str, str]:
     return {name: value for name, value in os.environ.items() if name not in left_out}
 
 
-def stand_in(folder: Path) -> Path:
-    """A shared library with each call that the module declares."""
+def stand_in(folder: Path, number: str = VERSION) -> Path:
+    """A shared library of a version with each call that the module declares."""
     calls = sorted(set(re.findall(r"\bkus_\w+", (PYTHON / "kuspveli.py").read_text(encoding="utf-8"))))
     source = folder / "calls.c"
-    source.write_text("".join(f"int {call} (void) {{ return 0; }}\n" for call in calls))
+    code = int.from_bytes(bytes(map(int, number.split("."))), "big")
+    answers = {call: code if call == "kus_version" else 0 for call in calls}
+    source.write_text("".join(f"int {call} (void) {{ return {answer}; }}\n" for call, answer in answers.items()))
     made = folder / "made.so"
     subprocess.run(["gcc", "-shared", "-o", made, source], check=True)
     return made
@@ -102,6 +104,16 @@ class Found(unittest.TestCase):
         self.put("other/out/libkuspveli.so")
         write_files(self.here, {"kuspveli.libs/clone.txt": f"{self.root}/other\n"})
         self.assertEqual(self.found(), ("other/out/libkuspveli.so", ""))
+        for name, mode in (("other/out/libkuspveli.so", 0o666), ("other/out", 0o775), ("other", 0o777)):
+            before = (self.root / name).stat().st_mode
+            (self.root / name).chmod(mode)
+            with mock.patch.object(library, "SYSTEM", ()):
+                self.assertRaisesRegex(ImportError, "passed over, since others may write there: .*other/out", library.find)
+            (self.root / name).chmod(before)
+        (self.root / "other").rename(self.root / "moved")
+        (self.root / "other").symlink_to("moved")
+        with mock.patch.object(library, "SYSTEM", ()):
+            self.assertRaisesRegex(ImportError, "passed over", library.find)
 
     def test_installed(self) -> None:
         """The library below whose prefix the module is installed. It is unproved where tools/install noted so; LD_LIBRARY_PATH is sought too."""
@@ -164,6 +176,17 @@ class Pip(unittest.TestCase):
         words = [self.python, "-m", "pip", "uninstall", "--quiet", "-y", "kuspveli"]
         subprocess.run(words, check=True, capture_output=True, env=self.environment)
         self.assertFalse(Path(path).parent.exists())
+
+    def test_other_version(self) -> None:
+        """A library of another version is refused by its file's name."""
+        self.install()
+        for number in ("2.0.0", "0.2.0", "1.1.0"):
+            other = stand_in(self.root, number)
+            self.environment["KUSPVELI_LIBRARY"] = str(other)
+            ran = self.run_python("import kuspveli")
+            self.assertEqual(ran.returncode, 1)
+            told = f"ImportError: {other}: the library is of version {number}, and kuspveli.py of {VERSION}: {BUILDS}"
+            self.assertIn(told, ran.stderr)
 
     def test_without_library(self) -> None:
         """Without one the import says what builds it; one that is built later is found in the clone."""

@@ -4,6 +4,8 @@ import copy
 import importlib.util
 import os
 import pickle
+import resource
+import signal
 import sys
 import threading
 import unittest
@@ -19,6 +21,7 @@ from sources.crates import ROOT
 
 FOLDER = ROOT / "bindings" / "python"
 TABLES = b"{}"
+NUMBER = int.from_bytes(bytes(map(int, (ROOT / "VERSION").read_text(encoding="utf-8").strip().split("."))), "big")
 # The letters f and i are a ligature; b is named, and a has a box.
 FONT = b"""{"upem":1000,"ascender":800,"cmap":[[97,1],[98,2],[102,3],[105,4],[233,5],[1575,6]],
 "h":[[1,500],[2,600],[3,300],[4,250],[5,510],[6,400],[7,520]],"extents":[[1,10,20,30,-40]],"names":[[2,"bee"]],
@@ -33,7 +36,8 @@ def module(library: Path | None) -> ModuleType:
     found = importlib.util.module_from_spec(spec)
     with mock.patch.object(sys, "path", [str(FOLDER), *sys.path]):
         if library is None:
-            environment, loaded = {"KUSPVELI_LIBRARY": __file__}, mock.patch("ctypes.CDLL")
+            environment = {"KUSPVELI_LIBRARY": __file__}
+            loaded = mock.patch("ctypes.CDLL", return_value=mock.MagicMock(**{"kus_version.return_value": NUMBER}))
         else:
             environment, loaded = {"KUSPVELI_LIBRARY": str(library)}, mock.patch.object(found, "unused", None, create=True)
         with mock.patch.dict(os.environ, environment), loaded:
@@ -190,6 +194,80 @@ class Answered(unittest.TestCase):
         with self.assertRaises(self.binding.Fault) as caught:
             self.font.shape(b"\xc3(")
         self.assertEqual(str(caught.exception), "NotUtf8")
+
+    def test_bytes(self) -> None:
+        """A subclass of bytes or str that tells another length or other bytes has its own bytes shaped."""
+
+        class Long(bytes):
+            def __len__(self) -> int:
+                return 4000
+
+        class Other(str):
+            def encode(self, *_: object) -> bytes:
+                return Long(b"b")
+
+        for text in (Long(b"aa"), Other("aa"), memoryview(Long(b"aa"))):
+            self.assertEqual([glyph.number for glyph in self.font.shape(text, before=text, after=text, language=Long(b"de"))], [1, 1])
+        self.assertEqual(self.binding.Font(Long(TABLES), Long(FONT)).upem(), 1000)
+
+    def test_again(self) -> None:
+        """A second __init__ reads into the same handle, and frees what it had; a fault leaves it."""
+        taken = []
+        for _ in range(3):
+            for _ in range(200):
+                self.font.__init__(TABLES, FONT)
+            taken.append(resource.getrusage(resource.RUSAGE_SELF).ru_maxrss)
+        self.assertLess(taken[2] - taken[1], 1024)
+        self.assertRaises(self.binding.Fault, self.font.__init__, TABLES, b"{")
+        self.assertEqual(len(self.font.shape("ab")), 2)
+
+    def test_stack(self) -> None:
+        """A thread with a small stack is told, and one with as much as is named has enough for the deepest files."""
+        told: list[str] = []
+        deep = b'{"upem":9,"x":' + b'{"a":' * 126 + b"1" + b"}" * 127
+
+        def work() -> None:
+            for call in (lambda: self.binding.Font(TABLES, FONT), lambda: self.font.shape("a"), lambda: self.binding.Font(deep, deep)):
+                try:
+                    call()
+                    told.append("")
+                except RuntimeError as error:
+                    told.append(str(error))
+
+        need = "the stack of this thread has 64 KiB, and the call needs"
+        for size, wanted in ((64, [f"{need} 448", f"{need} 192", f"{need} 448"]), (448, ["", "", ""])):
+            before = threading.stack_size(size << 10)
+            try:
+                thread = threading.Thread(target=work)
+                thread.start()
+                thread.join()
+            finally:
+                threading.stack_size(before)
+            self.assertEqual([each.partition(":")[0] for each in told], wanted)
+            told.clear()
+
+    def test_fork(self) -> None:
+        """A child that is forked while other threads work on a font may work on it too."""
+        done = threading.Event()
+
+        def work() -> None:
+            while not done.is_set():
+                self.font.shape("ab" * 2000)
+
+        threads = [threading.Thread(target=work) for _ in range(2)]
+        for thread in threads:
+            thread.start()
+        try:
+            for _ in range(30):
+                child = os.fork()
+                if not child:
+                    signal.alarm(20)
+                    os._exit(0 if len(self.font.shape("ab")) == 2 else 1)
+                self.assertEqual(os.waitpid(child, 0)[1], 0)
+        finally:
+            done.set()
+            for thread in threads:
+                thread.join()
 
     def test_threads(self) -> None:
         """Four threads share one font, and each gets the glyphs of its own text."""
