@@ -43,7 +43,8 @@ def run(program: Path, words: list[str]) -> int:
     end_by_exit()
     # While the program begins, a signal waits, so that it ends the program too.
     signal.pthread_sigmask(signal.SIG_BLOCK, ENDS)
-    with subprocess.Popen([program, *map(os.fsencode, words)], preexec_fn=take_signals) as ran:
+    # The program refuses its own name where it is no UTF-8, as below a folder of such a name.
+    with subprocess.Popen([program.name, *map(os.fsencode, words)], executable=program, preexec_fn=take_signals) as ran:
         # An interrupt from the terminal is the program's too, and it tells by its status.
         signal.signal(signal.SIGINT, signal.SIG_IGN)
         try:

@@ -94,8 +94,9 @@ def run(program: Path, tables: Path, font: Path, text: bytes, options: list[str]
         with faults_of(file.name):
             file.write(text)
             file.flush()
-        words = [program, *options, tables, font, file.name]
-        ran = subprocess.run(words, stdin=subprocess.DEVNULL, capture_output=True, check=False)
+        # It refuses words that are no UTF-8, among them its own name, which is that of a folder somewhere.
+        words = [program.name, *options, tables, font, file.name]
+        ran = subprocess.run(words, executable=program, stdin=subprocess.DEVNULL, capture_output=True, check=False)
     fault = one_line(ran.stderr.decode("utf-8", "replace")).removeprefix(OWN)
     status = ran.returncode if ran.returncode >= 0 else 128 - ran.returncode
     return Ran(ran.stdout.decode("utf-8", "replace"), status, fault)

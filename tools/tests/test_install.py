@@ -23,6 +23,8 @@ from sources.crates import ROOT
 VERSION = version()
 SHORT = interface(VERSION)
 NEEDED = ("gcc", "pkg-config")
+# The words that a shell reads of what pkg-config prints, each with a byte 0 after it.
+PRINTED = """eval "printf '%s\\\\0' $(pkg-config --cflags --libs kuspveli)\""""
 # Shapes one letter of a font without rules.
 OWN_C = """#include <kuspveli.h>
 #include <stdio.h>
@@ -131,6 +133,27 @@ class Words(unittest.TestCase):
         self.assertIn(b"prefix=/opt/a\\ b\n", text)
         self.assertIn(b"built without its proofs", text)
         self.assertNotIn(b"without", pkg_config(Path("/opt"), "0.1.0", is_proved=True))
+
+    @unittest.skipUnless(shutil.which("pkg-config"), "needs pkg-config")
+    def test_prefixes(self) -> None:
+        """Of each character that a folder's name may have, a prefix is refused, or pkg-config prints it for a shell."""
+        refused = []
+        with tempfile.TemporaryDirectory() as folder:
+            for character in [*map(chr, range(1, 127)), "é", "字", "\udcff", "# $"]:
+                if character == "/":
+                    continue
+                prefix = Path(f"/opt/a{character}b")
+                try:
+                    check_prefix(prefix)
+                except ToolFault:
+                    refused.append(character)
+                    continue
+                (Path(folder) / "kuspveli.pc").write_bytes(pkg_config(prefix, "0.1.0", is_proved=True))
+                words = ["/bin/bash", "-c", PRINTED]
+                ran = subprocess.run(words, capture_output=True, check=True, env={**os.environ, "PKG_CONFIG_PATH": folder})
+                wanted = [f"-I{prefix}/include", f"-L{prefix}/lib", "-lkuspveli"]
+                self.assertEqual(ran.stdout.split(b"\0")[:-1], list(map(os.fsencode, wanted)), repr(character))
+        self.assertEqual(refused, ["\n", "\r", "$", "(", ")", "# $"])
 
     def test_not_built(self) -> None:
         """What is not built, or of older sources, is named with what builds it, and nothing is written."""
