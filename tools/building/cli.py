@@ -10,7 +10,7 @@ from building.gate import Failure, run_gate
 from building.kit import Kit
 from building.places import PROGRAM, Place
 from building.progress import Teller
-from building.tree import clear, lay_tree, stamp_of, tree_of
+from building.tree import lay_tree, new_tree, stamp_of
 from common.faults import FILES, ToolFault
 from common.files import faults_of
 from sources.crates import ROOT
@@ -37,8 +37,7 @@ def main(words: list[str], root: Path = ROOT) -> int:
 def make_proved(place: Place, kit: Kit, jobs: int | None, teller: Teller, held: int) -> Failure | None:
     """Proves the crates, and takes the program that the gate built; its time is that at which the sources were read."""
     root, lines, begun = place.root, place.lines(), time.time()
-    tree = tree_of(root, place.target.crate)
-    try:
+    with new_tree(place.tree_note, place.target.crate) as tree:
         lay_tree(root, tree, lines)
         failure = run_gate(root, tree, place.log, held, jobs, teller)
         if failure is None:
@@ -51,6 +50,4 @@ def make_proved(place: Place, kit: Kit, jobs: int | None, teller: Teller, held: 
                 os.utime(new, (begun, begun))
                 os.replace(new, place.file)
             place.write_stamp(stamp_of(tree, lines, kit.line), kit.line)
-    finally:
-        clear(tree)
     return failure

@@ -11,7 +11,7 @@ from building.libraries import build_archive
 from building.linking import link_library
 from building.places import LIBRARY, Place
 from building.progress import Teller
-from building.tree import clear, lay_tree, stamp_of, tree_of
+from building.tree import lay_tree, new_tree, stamp_of
 from sources.crates import ROOT
 
 NAME = "build_library"
@@ -38,8 +38,7 @@ def main(words: list[str], root: Path = ROOT) -> int:
 def make_proved(place: Place, kit: Kit, jobs: int | None, teller: Teller, held: int) -> Failure | None:
     """Proves the crates by the gate, and builds over the libraries that it leaves."""
     root, lines, crate = place.root, place.lines(), place.target.crate
-    tree = tree_of(root, crate)
-    try:
+    with new_tree(place.tree_note, crate) as tree:
         lay_tree(root, tree, lines)
         failure = run_gate(root, tree, place.log, held, jobs, teller)
         if failure is not None:
@@ -53,6 +52,4 @@ def make_proved(place: Place, kit: Kit, jobs: int | None, teller: Teller, held: 
                 for path in link_library(kit, made, room):
                     os.replace(path, place.folder / path.name)
                 place.write_stamp(stamp_of(tree, lines, kit.line), kit.line)
-    finally:
-        clear(tree)
     return failure

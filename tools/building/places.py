@@ -85,6 +85,11 @@ class Place:
     def stamp_file(self) -> Path:
         return self.folder / f"{self.target.name}.built_by"
 
+    @property
+    def tree_note(self) -> Path:
+        """The file that names the tree of the build that runs."""
+        return self.folder / f".{self.target.name}.tree"
+
     def lines(self) -> dict[str, str]:
         """The lines of crates.txt of the crates that the target is built of."""
         return needed_lines(self.root, self.target.crate)

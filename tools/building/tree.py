@@ -11,9 +11,9 @@ import shutil
 import stat
 import tempfile
 from pathlib import Path
-from typing import Iterable
+from typing import Iterable, Iterator
 
-from common.files import faults_of, write_over
+from common.files import faults_of, write_file, write_over
 from sources.crates import all_needs, read_crates
 
 # What the gate reads of a crate: code and proofs, and what a program is run on.
@@ -22,10 +22,28 @@ LIST = "crates.txt"
 HANDLES = "HANDLES"
 
 
-def tree_of(root: Path, crate: str) -> Path:
-    """The place of the tree, one for each copy of the repository and each crate that is built."""
-    own = hashlib.sha256(os.fsencode(root)).hexdigest()[:16]
-    return Path(tempfile.gettempdir()).resolve() / f"{crate}-build-{own}"
+@contextlib.contextmanager
+def new_tree(note: Path, crate: str) -> Iterator[Path]:
+    """The place of the tree, in a private folder of a name that nobody knows before, which is removed at the end. The note
+    has the name, by which the next build removes what a killed one left."""
+    start = f"{crate}-build-"
+    clear_left(note, start)
+    room = Path(tempfile.mkdtemp(prefix=start)).resolve()
+    try:
+        write_file(note, os.fsencode(room) + b"\n")
+        yield room / "tree"
+    finally:
+        clear(room)
+        note.unlink(missing_ok=True)
+
+
+def clear_left(note: Path, start: str) -> None:
+    """Removes the folder that a note names, where it is a tree's and this user's."""
+    with contextlib.suppress(OSError):
+        left = Path(os.fsdecode(note.read_bytes().rstrip(b"\n")))
+        found = left.lstat()
+        if left.name.startswith(start) and stat.S_ISDIR(found.st_mode) and found.st_uid == os.geteuid():
+            clear(left)
 
 
 def needed_lines(root: Path, crate: str) -> dict[str, str]:

@@ -19,7 +19,7 @@ from support import TOOLS, copy_tools, interruptible, write_files
 
 from building import cli
 from building.places import PROGRAM, Place
-from building.tree import files_of, needed_lines, tree_of
+from building.tree import files_of, needed_lines
 from common.faults import ToolFault
 from sources.crates import ROOT, read_crates
 
@@ -92,8 +92,12 @@ class Built(unittest.TestCase):
         """The status, and what was told, with 0:00 for each time. No tree is left."""
         with contextlib.redirect_stderr(io.StringIO()) as told, contextlib.redirect_stdout(io.StringIO()) as shown:
             status = cli.main([*words], self.root)
-        self.assertFalse(tree_of(self.root, "hb_shape").exists())
+        self.assertEqual(self.trees(), [])
         return status, re.sub(r"\d+:\d\d", "0:00", told.getvalue() + shown.getvalue())
+
+    def trees(self) -> list[Path]:
+        """The private folders of trees that are there."""
+        return list(self.notes.glob("hb_shape-build-*"))
 
     def called(self) -> list[str]:
         """With what rt was called since the last question."""
@@ -242,10 +246,36 @@ class Built(unittest.TestCase):
         self.assertEqual(len(self.called()), 1)
 
     def test_killed(self) -> None:
-        """The tree that a killed build left is replaced."""
-        write_files(tree_of(self.root, "hb_shape"), {"crates/left/src/old.rt": ""})
+        """The tree that a killed build left is removed, and nothing else that stands in the note's place."""
+        left, note = self.notes / "hb_shape-build-x1", self.place.tree_note
+        write_files(left, {"tree/crates/left/src/old.rt": ""})
+        write_files(note.parent, {note.name: f"{left}\n"})
         self.assertEqual(self.build()[0], 0)
-        self.assertNotIn("old.rt", (self.notes / "tree").read_text())
+        self.assertFalse(left.exists() or note.exists())
+        own, link = self.notes / "own", self.notes / "linked" / "hb_shape-build-x2"
+        write_files(own, {"file": "own"})
+        write_files(link.parent, {"other": ""})
+        link.symlink_to(own)
+        for named in (own, link):
+            write_files(note.parent, {note.name: f"{named}\n"})
+            self.write("low", f"{named}\n")
+            self.assertEqual(self.build()[0], 0)
+            self.assertEqual((own / "file").read_text(), "own")
+
+    def test_private(self) -> None:
+        """The tree's folder is nobody else's, and has another name each time."""
+        found = []
+
+        def lay(root: Path, tree: Path, lines: dict[str, str]) -> None:
+            found.append((tree, tree.parent.stat().st_mode & 0o777))
+            raise ToolFault(6, "laid")
+
+        with mock.patch.object(cli, "lay_tree", lay):
+            for _ in range(2):
+                self.assertRaises(ToolFault, cli.main, [], self.root)
+        self.assertEqual([mode for _, mode in found], [0o700, 0o700])
+        self.assertNotEqual(found[0][0], found[1][0])
+        self.assertEqual(self.trees(), [])
 
     def test_ended(self) -> None:
         """A build that is ended ends rt, tells how far it was, and removes its tree."""
@@ -258,11 +288,11 @@ class Built(unittest.TestCase):
                 while not (self.notes / "list").exists():
                     self.assertIsNone(run.poll())
                     time.sleep(0.05)
-                self.assertTrue(tree_of(self.root, "hb_shape").exists())
+                self.assertEqual(len(self.trees()), 1)
                 run.send_signal(sent)
                 _, told = run.communicate(timeout=120)
                 self.assertEqual(run.returncode, status)
-            self.assertFalse(tree_of(self.root, "hb_shape").exists())
+            self.assertEqual(self.trees(), [])
             last = (
                 r"build: stopped after 0:\d\d: 0 of 4 crates passed, which are kept: the next run goes on from there\n$"
             )

@@ -6,7 +6,7 @@ import tempfile
 import unittest
 from pathlib import Path
 
-from support import HAS_FONTS, needs_fonts
+from support import needs_fonts
 
 from building.places import PROGRAM, standing
 from common.faults import ToolFault
@@ -17,7 +17,6 @@ from fontjson.limits import FREE_ROWS, MOST_ROWS, most_rows
 from fontTools.fontBuilder import FontBuilder
 from fontTools.ttLib import TTFont
 from fontTools.ttLib.tables._c_m_a_p import CmapSubtable
-from fontTools.ttLib.tables.DefaultTable import DefaultTable
 from formats.rules import font_faults
 from fuzzing import converted
 from hostile_fonts import coverage, one_lookup, plain, saved, single, with_tables, words

@@ -18,7 +18,6 @@ from building import library
 from building.kit import Kit
 from building.linking import link_library
 from building.places import LIBRARY, Place
-from building.tree import tree_of
 from common.faults import ToolFault
 from library_tests import cli, drivers, times
 from library_tests.cases import SETTINGS, WORDS, Words, scripts, turns
@@ -188,7 +187,7 @@ class Built(unittest.TestCase):
         """The status, and what was told. No tree is left."""
         with contextlib.redirect_stderr(io.StringIO()) as told, contextlib.redirect_stdout(io.StringIO()) as shown:
             status = library.main([], self.root)
-        self.assertFalse(tree_of(self.root, LIBRARY.crate).exists())
+        self.assertEqual(list(Path(tempfile.gettempdir()).glob(f"{LIBRARY.crate}-build-*")), [])
         return status, re.sub(r"\d+:\d\d", "0:00", told.getvalue()) + shown.getvalue()
 
     def called(self) -> list[str]:
@@ -204,7 +203,7 @@ class Built(unittest.TestCase):
         self.assertEqual(status, 0, told)
         gate, call = self.called()
         self.assertEqual(gate, "rt ci")
-        kit, crates = self.notes / "kit", tree_of(self.root, LIBRARY.crate) / "crates"
+        kit, crates = self.notes / "kit", Path(re.search(r"left=(\S+)/left/out", call)[1])
         own = [f"--extern {name}={crates / name}/out/rlib/{name}.rlib" for name in ("left", "right")]
         wanted = [f"--extern {name}={kit}/rlibs/{name}.rlib" for name in ("std", "core")] + own
         wanted += [f"-L dependency={folder}" for folder in (kit / "rlibs", *(crates / it / "out/rlib" for it in BELOW))]
