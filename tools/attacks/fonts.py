@@ -1,6 +1,6 @@
 """Attacks by a font's lookups."""
 
-from typing import Any
+from typing import Any, Callable
 
 from attacks.attack import Attack, Files, Value, font, lookup, rules, table
 
@@ -142,6 +142,18 @@ def marks_without_base(count: int) -> Files:
     return Files(given, "a" + "\u0301" * count, options=("--unsafe-to-concat",))
 
 
+MARKS = {"marks": [[2, 0, [100, 0]]], "bases": [[1, [[250, 480]]]]}
+OTHER_MARKS = {"marks": [[3, 0, [100, 0]]], "bases": [[1, [[250, 480]]]]}
+
+
+def in_turn(*lookups: Value, kind: int = 1, used: tuple[int, ...] = (0,), **gdef: Any) -> Callable[[int], Files]:
+    """Two marks in turn after one base, each with a cluster of its own: for one of them a lookup passes over all others up
+    to the base, and flags all between."""
+    classes = {"classes": [[1, kind], [2, 3], [3, 3]], **gdef}
+    given = font("abc", None, table("mark", list(lookups), list(used)), gdef=classes)
+    return lambda count: Files(given, "a" + "bc" * (count // 2))
+
+
 def fallback_marks(count: int) -> Files:
     extents = [[1, 0, 500, 480, -500], [2, 20, 700, 160, -150]]
     tables = {"classes": [[0x0301, 230]]}
@@ -248,6 +260,21 @@ FONTS = [
     Attack("marks on marks", 8192, marks_on_marks),
     Attack("marks on one ligature", 8192, marks_on_ligature),
     Attack("marks without a base", 8192, marks_without_base),
+    Attack("marks in turn", 8192, in_turn(lookup("markbase", MARKS))),
+    Attack("marks in turn, by a set", 8192, in_turn({**lookup("markbase", MARKS, flags=16), "set": 0}, sets=[[2]])),
+    Attack("marks in turn, by a class", 8192, in_turn(lookup("markbase", MARKS, flags=0x100), attach=[[2, 1], [3, 2]])),
+    Attack(
+        "marks in turn, on a ligature",
+        8192,
+        in_turn(lookup("marklig", {**MARKS, "bases": [[1, [[[250, 480]], [[300, 480]]]]]}), kind=2),
+    ),
+    Attack("marks in turn, by two subtables", 8192, in_turn(lookup("markbase", MARKS, OTHER_MARKS))),
+    Attack("marks in turn, by two lookups", 8192, in_turn(lookup("markbase", MARKS), lookup("markbase", OTHER_MARKS), used=(0, 1))),
+    Attack(
+        "marks in turn, by a context",
+        8192,
+        in_turn(lookup("chain", rules([[], [2], [], [[0, 1]]])), lookup("markbase", MARKS)),
+    ),
     Attack("fallback marks", 8192, fallback_marks),
     Attack("a cursive text", 20000, cursive),
     Attack("a cursive text from the right", 20000, cursive_at_level),

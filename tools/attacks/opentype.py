@@ -34,7 +34,7 @@ def write_opentype(value: Value, path: Path) -> None:
     font.setupHorizontalHeader(ascent=value.get("ascender", 800), descent=-200)
     font.setupPost(keepGlyphNames=False)
     if "classes" in value.get("gdef", {}):
-        font.font["GDEF"] = gdef(names, value["gdef"]["classes"])
+        font.font["GDEF"] = gdef(names, value["gdef"])
     for tag, kinds in (("GSUB", GSUB), ("GPOS", GPOS)):
         if tag.lower() in value:
             font.font[tag] = Layout(tag, kinds, names).table(value[tag.lower()])
@@ -58,13 +58,20 @@ def numbers_in(value: Any) -> Iterator[int]:
         yield from chain.from_iterable(map(numbers_in, value.values() if isinstance(value, dict) else value))
 
 
-def gdef(names: list[str], classes: list[list[int]]) -> Any:
+def gdef(names: list[str], value: Value) -> Any:
     table = newTable("GDEF")
-    table.table = ot.GDEF()
-    table.table.Version = 0x00010000
-    table.table.AttachList = table.table.LigCaretList = table.table.MarkAttachClassDef = None
-    table.table.GlyphClassDef = ot.GlyphClassDef()
-    table.table.GlyphClassDef.classDefs = {names[glyph]: number for glyph, number in classes}
+    made = table.table = ot.GDEF()
+    made.Version = 0x00010002
+    made.AttachList = made.LigCaretList = made.MarkAttachClassDef = made.MarkGlyphSetsDef = None
+    made.GlyphClassDef = ot.GlyphClassDef()
+    made.GlyphClassDef.classDefs = {names[glyph]: number for glyph, number in value["classes"]}
+    if "attach" in value:
+        made.MarkAttachClassDef = ot.MarkAttachClassDef()
+        made.MarkAttachClassDef.classDefs = {names[glyph]: number for glyph, number in value["attach"]}
+    if "sets" in value:
+        numbers = {name: number for number, name in enumerate(names)}
+        sets = [[names[glyph] for glyph in glyphs] for glyphs in value["sets"]]
+        made.MarkGlyphSetsDef = builder.buildMarkGlyphSetsDef(sets, numbers)
     return table
 
 
@@ -109,6 +116,8 @@ class Layout:
         kind, make = self.kinds[value["type"]]
         lookup = ot.Lookup()
         lookup.LookupType, lookup.LookupFlag = kind, value.get("flags", 0)
+        if "set" in value:
+            lookup.MarkFilteringSet = value["set"]
         lookup.SubTable = [made for each in value["subtables"] for made in make(self, each)]
         return lookup
 
@@ -149,27 +158,32 @@ def context(of: Layout, value: Value) -> Subtables:
     """A context by glyphs, as a chained one."""
     if value["format"] != "glyphs":
         raise Unwritten(f"a context by {value['format']}")
-    subtable = ot.ChainContextSubst()
+    kind = "Subst" if of.tag == "GSUB" else "Pos"
+    subtable = getattr(ot, f"ChainContext{kind}")()
     subtable.Format = 1
     firsts = sorted({rule[1][0] for rule in value["rules"]})
     subtable.Coverage = builder.buildCoverage(of.all(firsts), of.numbers)
-    subtable.ChainSubRuleSet = []
+    sets = []
     for first in firsts:
-        rules = ot.ChainSubRuleSet()
-        rules.ChainSubRule = [chained(of, *rule) for rule in value["rules"] if rule[1][0] == first]
-        subtable.ChainSubRuleSet.append(rules)
+        rules = getattr(ot, f"Chain{kind[:3]}RuleSet")()
+        setattr(rules, f"Chain{kind[:3]}Rule", [chained(of, kind, *rule) for rule in value["rules"] if rule[1][0] == first])
+        sets.append(rules)
+    setattr(subtable, f"Chain{kind[:3]}RuleSet", sets)
     return [subtable]
 
 
-def chained(of: Layout, before: list[int], glyphs: list[int], after: list[int], records: list[list[int]]) -> Any:
-    rule = ot.ChainSubRule()
+def chained(
+    of: Layout, kind: str, before: list[int], glyphs: list[int], after: list[int], records: list[list[int]]
+) -> Any:
+    rule = getattr(ot, f"Chain{kind[:3]}Rule")()
     rule.Backtrack, rule.Input, rule.LookAhead = of.all(before), of.all(glyphs[1:]), of.all(after)
     rule.BacktrackGlyphCount, rule.GlyphCount, rule.LookAheadGlyphCount = len(before), len(glyphs), len(after)
-    rule.SubstLookupRecord = []
+    called = []
     for index, lookup in records:
-        record = ot.SubstLookupRecord()
+        record = getattr(ot, f"{kind}LookupRecord")()
         record.SequenceIndex, record.LookupListIndex = index, lookup
-        rule.SubstLookupRecord.append(record)
+        called.append(record)
+    setattr(rule, f"{kind}LookupRecord", called)
     return rule
 
 
@@ -195,6 +209,12 @@ def mark_to_base(of: Layout, value: Value) -> Subtables:
     return builder.buildMarkBasePos(marks, bases, of.numbers)
 
 
+def mark_to_ligature(of: Layout, value: Value) -> Subtables:
+    marks = {of.name(glyph): (number, anchor(at)) for glyph, number, at in value["marks"]}
+    bases = {of.name(glyph): [dict(enumerate(map(anchor, part))) for part in parts] for glyph, parts in value["bases"]}
+    return builder.buildMarkLigPos(marks, bases, of.numbers)
+
+
 def cursive(of: Layout, rows: list[Any]) -> Subtables:
     return [builder.buildCursivePosSubtable({of.name(g): (anchor(a), anchor(b)) for g, a, b in rows}, of.numbers)]
 
@@ -207,4 +227,10 @@ GSUB = {
     "context": (6, context),
     "chain": (6, context),
 }
-GPOS = {"pair": (2, pair), "cursive": (3, cursive), "markbase": (4, mark_to_base)}
+GPOS = {
+    "pair": (2, pair),
+    "cursive": (3, cursive),
+    "markbase": (4, mark_to_base),
+    "marklig": (5, mark_to_ligature),
+    "chain": (8, context),
+}
