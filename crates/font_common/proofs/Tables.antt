@@ -14,11 +14,11 @@ after_none (Ok r) = refl
 after_none (Err e) = refl
 
 -- one more table is read
-pub table_done : {X A : Type 0} (read : ℕ → X → Result (A × ℕ) TableFault) (done : List A) (room left : ℕ) (o : X) (os : List X) (a : A) → read room o ≡ Ok (a, left)
+pub table_done : {A : Type 0} (read : ℕ → ℕ → Result (A × ℕ) TableFault) (done : List A) (room left o : ℕ) (os : List ℕ) (a : A) → read room o ≡ Ok (a, left)
     → after done (tables_in read room (o ∷ os)) ≡ after (done ++ a ∷ []) (tables_in read left os)
 table_done read done room left o os a h = rw h (after_after done (a ∷ []) (tables_in read left os))
 
 -- a table is refused
-pub table_refused : {X A : Type 0} (read : ℕ → X → Result (A × ℕ) TableFault) (done : List A) (room : ℕ) (o : X) (os : List X) (e : TableFault) → read room o ≡ Err e
+pub table_refused : {A : Type 0} (read : ℕ → ℕ → Result (A × ℕ) TableFault) (done : List A) (room o : ℕ) (os : List ℕ) (e : TableFault) → read room o ≡ Err e
     → after done (tables_in read room (o ∷ os)) ≡ Err e
 table_refused read done room o os e h = rw h refl

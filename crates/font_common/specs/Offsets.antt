@@ -15,8 +15,8 @@ value_at_offset null read room bytes base offset = if offset == 0 then Ok (null,
 abbrev pub after : {A : Type 0} → List A → Result (List A × ℕ) TableFault → Result (List A × ℕ) TableFault
 after done rest = and_then rest (λ r. Ok (done ++ r.0, r.1))
 
--- the values of tables at offsets or of records, one after another in the room that those before them leave
-abbrev pub tables_in : {X A : Type 0} → (ℕ → X → Result (A × ℕ) TableFault) → ℕ → List X → Result (List A × ℕ) TableFault
+-- the values of tables at offsets, one after another in the room that those before them leave
+abbrev pub tables_in : {A : Type 0} → (ℕ → ℕ → Result (A × ℕ) TableFault) → ℕ → List ℕ → Result (List A × ℕ) TableFault
 tables_in read room [] = Ok ([], room)
 tables_in read room (o ∷ os) = and_then (read room o) (λ a. after (a.0 ∷ []) (tables_in read a.1 os))
 

@@ -5,13 +5,12 @@ use Rattle.font_bytes.specs.declared.fault.TableFault.{TableFault}
 use Rattle.font_bytes.specs.Results.{and_then}
 use Rattle.font_bytes.specs.Room.{taken}
 use Rattle.font_bytes.specs.Words.{need, word}
-use Rattle.font_common.specs.Offsets.{tables_in}
 use Rattle.font_common.specs.Words.{words_at}
 use Rattle.layout_tables.specs.Layout.{FeatureTable}
 use Rattle.font_lists.specs.declared.tagged.TagRecord.{TagRecord}
 use Rattle.font_lists.specs.declared.variations.FeaturePlace.{FeaturePlace}
 use Rattle.font_lists.specs.Scripts.{known_indices}
-use Rattle.font_lists.specs.Tagged.{tag_records}
+use Rattle.font_lists.specs.Tagged.{tag_records, tagged_tables}
 
 -- a feature table, in a table of so many lookups: lookupIndexCount at 2, lookupListIndices at 4
 abbrev pub feature_at : ℕ → ℕ → List ℕ → TagRecord → Result (FeatureTable × ℕ) TableFault
@@ -37,7 +36,7 @@ substituted places index (r ∷ rs) = substituted_by (row_of (λ p. p.feature_in
 abbrev pub feature_list_at : ℕ → List FeaturePlace → ℕ → List ℕ → ℕ → Result (List FeatureTable × ℕ) TableFault
 feature_list_at lookup_count places room table at = and_then (need table at 2) (λ _. and_then (need table (at + 2) (6 * word table at))
     (λ _. and_then (taken room (word table at))
-    (λ left. tables_in (λ r t. feature_of lookup_count r table t) left (substituted places 0 (tag_records table at (at + 2) (word table at))))))
+    (λ left. tagged_tables (λ r t. feature_of lookup_count r table t) left (substituted places 0 (tag_records table at (at + 2) (word table at))))))
 
 -- the features of a list, none where its offset is null
 abbrev pub features_of : ℕ → List FeaturePlace → ℕ → List ℕ → ℕ → Result (List FeatureTable × ℕ) TableFault

@@ -4,11 +4,10 @@ use Rattle.font_bytes.specs.declared.fault.TableFault.{TableFault}
 use Rattle.font_bytes.specs.Results.{and_then}
 use Rattle.font_bytes.specs.Room.{taken}
 use Rattle.font_bytes.specs.Words.{need, word}
-use Rattle.font_common.specs.Offsets.{tables_in}
 use Rattle.font_common.specs.Words.{words_at}
 use Rattle.layout_tables.specs.Layout.{LangSysTable, LangSysEntry, ScriptTable}
 use Rattle.font_lists.specs.declared.tagged.TagRecord.{TagRecord}
-use Rattle.font_lists.specs.Tagged.{by_tag, place_of, tag_records}
+use Rattle.font_lists.specs.Tagged.{by_tag, place_of, tag_records, tagged_tables}
 
 -- an index of a list of so many, none where it has no such element, as 65535, which names none
 abbrev pub known_index : ℕ → ℕ → Option ℕ
@@ -47,7 +46,7 @@ default_lang_sys_at feature_count room table place =
 -- the language systems of records, by rising tags; a record takes a row of room
 abbrev pub lang_systems_at : ℕ → ℕ → List ℕ → ℕ → ℕ → Result (List LangSysEntry × ℕ) TableFault
 lang_systems_at feature_count room table base count = and_then (need table (base + 4) (6 * count)) (λ _. and_then (taken room count)
-    (λ left. tables_in (λ r t. lang_sys_of feature_count r table t) left (by_tag (tag_records table base (base + 4) count))))
+    (λ left. tagged_tables (λ r t. lang_sys_of feature_count r table t) left (by_tag (tag_records table base (base + 4) count))))
 
 -- a script table: defaultLangSysOffset at 0, langSysCount at 2, langSysRecords at 4
 abbrev pub script_at : ℕ → ℕ → List ℕ → TagRecord → Result (ScriptTable × ℕ) TableFault
@@ -65,7 +64,7 @@ script_of feature_count room table r =
 abbrev pub script_list_at : ℕ → ℕ → List ℕ → ℕ → Result (List ScriptTable × ℕ) TableFault
 script_list_at feature_count room table at = and_then (need table at 2) (λ _. and_then (need table (at + 2) (6 * word table at))
     (λ _. and_then (taken room (word table at))
-    (λ left. tables_in (λ r t. script_of feature_count r table t) left (by_tag (tag_records table at (at + 2) (word table at))))))
+    (λ left. tagged_tables (λ r t. script_of feature_count r table t) left (by_tag (tag_records table at (at + 2) (word table at))))))
 
 -- the scripts of a list, none where its offset is null
 abbrev pub scripts_of : ℕ → ℕ → List ℕ → ℕ → Result (List ScriptTable × ℕ) TableFault

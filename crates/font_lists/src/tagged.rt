@@ -2,9 +2,8 @@
 ghost use Rattle.std.specs.Prelude.{◌≡◌, ◌≢◌, ◌≤◌, ◌+◌, ◌*◌, ℕ, List, Result, IfOk, IfErr, OnOk, Ok, Err, length, map};
 ghost use Rattle.font_bytes.specs.declared.fault.TableFault.{TableFault};
 ghost use Rattle.buffer_rows.specs.KeyOrder.{key_order};
-ghost use Rattle.font_common.specs.Offsets.{tables_in};
 ghost use Rattle.font_lists.specs.declared.tagged.TagRecord.{TagRecord};
-ghost use Rattle.font_lists.specs.Tagged.{by_tag, place_of, tag_record, tag_records};
+ghost use Rattle.font_lists.specs.Tagged.{by_tag, place_of, tag_record, tag_records, tagged_tables};
 
 use buffer_common::tag::Tag;
 use buffer_rows::{Keyed, SortedRows};
@@ -133,11 +132,11 @@ pub fn read_tagged_tables<R: TaggedReader>(
     tagged: &[TagRecord],
     room: &mut Room,
 ) -> Result<Vec<R::Value>, TableFault>
-    ensures ok { IfOk result (λ v. tables_in (λ r t. R.value_of reader.now r table.now t) room.old.left tagged.now
+    ensures ok { IfOk result (λ v. tagged_tables (λ r t. R.value_of reader.now r table.now t) room.old.left tagged.now
         ≡ Ok (v.items, room.new.left)) }
     ensures tags { IfOk result (λ v. map R.tag_of v.items ≡ map (λ t. t.tag.0) tagged.now) }
     ensures refused { IfErr result (λ e. e ≢ TableFault.OutOfMemory
-        → tables_in (λ r t. R.value_of reader.now r table.now t) room.old.left tagged.now ≡ Err e) }
+        → tagged_tables (λ r t. R.value_of reader.now r table.now t) room.old.left tagged.now ≡ Err e) }
 {
     let mut values = Vec::with_capacity(alloc, tagged.len())?;
     for one in tagged {
