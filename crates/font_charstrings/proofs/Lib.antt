@@ -1,2 +1,3 @@
-pub mod Steps
-pub mod Runs
+mod Boxes
+mod Steps
+mod Runs

@@ -1,4 +1,5 @@
 pub mod Pen
+pub mod Boxes
 pub mod Paths
 pub mod Numbers
 pub mod Index

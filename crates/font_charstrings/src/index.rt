@@ -122,7 +122,8 @@ pub fn index_end(table: &[u8], at: usize, is_cff2: bool) -> Result<usize, TableF
 
 /// The bytes from one offset to another.
 fn span_of(table: &[u8], at: usize, end: usize) -> Result<Span, TableFault>
-    ensures { result ≡ span_of table.now at end }
+    ensures value { result ≡ span_of table.now at end }
+    ensures within { IfOk result (λ s. (s.at ≤ s.end) × (s.end ≤ length table.now)) }
 {
     if at > end {
         return Err(TableFault::Order(at));
@@ -134,7 +135,8 @@ fn span_of(table: &[u8], at: usize, end: usize) -> Result<Span, TableFault>
 /// The bytes of the object with an index.
 #[tactic(auto, unfolding(crate::specs::Index::object))]
 pub fn object(table: &[u8], index: Index, number: usize) -> Result<Span, TableFault>
-    ensures { result ≡ object table.now index number }
+    ensures value { result ≡ object table.now index number }
+    ensures within { IfOk result (λ s. (s.at ≤ s.end) × (s.end ≤ length table.now)) }
 {
     if number >= index.count as usize {
         return Err(TableFault::Kind(index.offsets as usize));

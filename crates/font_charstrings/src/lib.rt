@@ -2,6 +2,7 @@
 #![tactic(auto)]
 
 pub mod index;
+pub mod laws;
 pub mod machine;
 pub mod numbers;
 pub mod operators;

@@ -1,0 +1,3 @@
+mod Dicts
+mod Lists
+mod Charsets
