@@ -4,12 +4,11 @@ from typing import Any, Iterator
 
 from fontTools import unicodedata
 
-from fontjson.kern_subtables import Kerning, read
+from fontjson.kern_subtables import Rows, Subtable, cut_short, read
 from fontjson.numbers import Row
 from fontjson.source import Source
 
 Value = dict[str, Any]
-Record = list[int]
 TAG = "kern"
 IGNORE_MARKS = 8
 # The scripts of which the first that GPOS has serves texts whose own script it lacks.
@@ -37,7 +36,8 @@ def with_kerning(source: Source, gpos: Value | None) -> Value | None:
     table = gpos or {"scripts": [], "features": [], "lookups": []}
     rows = rows_of(source, table)
     lacking = {backward(row[0]) for row in rows if lacks(table, row)}
-    subtables = read(source) if lacking else []
+    counted = Rows()
+    subtables = read(source, counted) if lacking else []
     if not subtables or loses_marks(source, gpos):
         return gpos
     if "Hebr" in scripts_of(source) and all(row[0] != HEBREW for row in rows):
@@ -46,7 +46,8 @@ def with_kerning(source: Source, gpos: Value | None) -> Value | None:
     places = {}
     for is_backward in sorted(lacking):
         places[is_backward] = len(features)
-        features.append([TAG, list(append_lookups(lookups, subtables, is_backward))])
+        with cut_short():
+            features.append([TAG, list(append_lookups(lookups, subtables, is_backward, counted))])
     scripts = [kerned(table, row, places) for row in rows]
     return {"scripts": scripts, "features": features, "lookups": lookups}
 
@@ -123,85 +124,16 @@ def kerned(table: Value, row: Row, places: dict[bool, int]) -> Row:
 # ---- lookups
 
 
-def append_lookups(lookups: list[Value], subtables: list[Kerning], is_backward: bool) -> Iterator[int]:
-    """Appends two lookups for each subtable, and those that its second one calls; the indices of the two.
+def append_lookups(lookups: list[Value], subtables: list[Subtable], is_backward: bool, rows: Rows) -> Iterator[int]:
+    """Appends two lookups for each subtable: a pair lookup, and a context that calls it; the contexts' indices.
 
-    A pair lookup that moves its second glyph passes over it, so a chained context moves it, by the glyph before it.
+    A pair lookup that moves its second glyph passes over it. The context's input is the first glyph alone, so that after
+    the call the text is read on from the second glyph, which may begin the next pair.
     """
     for subtable in subtables:
-        # In a text from right to left the right glyph comes first.
-        kerning = subtable.turned() if is_backward else subtable
-        distances = set(kerning.distances.values())
-        records = {distance: halves(distance, is_backward) for distance in distances}
+        first, pairs = subtable.kerning(is_backward, rows)
+        rule = [[], [first], [], [[0, len(lookups)]]]
+        lookups.append({"flags": IGNORE_MARKS, "type": "pair", "subtables": [pairs]})
         yield len(lookups)
-        lookups.append({"flags": IGNORE_MARKS, "type": "pair", "subtables": [pairs(kerning, records)]})
-        yield len(lookups)
-        context: Value = {"flags": IGNORE_MARKS, "type": "chain", "subtables": []}
-        lookups.append(context)
-        called = dict(append_called(lookups, kerning, records))
-        context["subtables"].append(chain(kerning, records, called))
-
-
-def halves(distance: int, is_backward: bool) -> tuple[Record, Record]:
-    """What is added to the glyph that comes first in the text, and to the one after it."""
-    half = distance >> 1
-    rest = distance - half
-    left, right = [0, 0, half, 0], [rest, 0, rest, 0]
-    return (right, left) if is_backward else (left, right)
-
-
-Records = dict[int, tuple[Record, Record]]
-
-
-def pairs(kerning: Kerning, records: Records) -> Row | Value:
-    """The first glyphs' records by pairs of glyphs, or by classes where these are fewer."""
-    first, second = kerning.members()
-    class_counts = max(first) + 1, max(second) + 1
-    pair_count = sum(len(first[a]) * len(second[b]) for a, b in kerning.distances)
-    if class_counts[0] * class_counts[1] < pair_count:
-        rows = [[[[0, 0, 0, 0], None] for _ in range(class_counts[1])] for _ in range(class_counts[0])]
-        for (a, b), distance in kerning.distances.items():
-            rows[a][b][0] = records[distance][0]
-        return {
-            "first": sorted(kerning.left),
-            "class1": class_rows(kerning.left),
-            "class2": class_rows(kerning.right),
-            "records": rows,
-        }
-    return sorted(
-        [one, two, records[distance][0], None]
-        for (a, b), distance in kerning.distances.items()
-        for one in first[a]
-        for two in second[b]
-    )
-
-
-def class_rows(classes: dict[int, int]) -> list[Row]:
-    return [[glyph, number] for glyph, number in sorted(classes.items())]
-
-
-def append_called(lookups: list[Value], kerning: Kerning, records: Records) -> Iterator[tuple[tuple[int, ...], int]]:
-    """Appends a lookup for each record of a second glyph; the records with their indices."""
-    _, members = kerning.members()
-    glyphs: dict[tuple[int, ...], set[int]] = {}
-    for (_, second), distance in kerning.distances.items():
-        glyphs.setdefault(tuple(records[distance][1]), set()).update(members[second])
-    for record, moved in sorted(glyphs.items()):
-        yield record, len(lookups)
-        rows = [[glyph, list(record)] for glyph in sorted(moved)]
-        lookups.append({"type": "single", "subtables": [rows]})
-
-
-def chain(kerning: Kerning, records: Records, called: dict[tuple[int, ...], int]) -> Value:
-    """The second glyphs' lookups by the glyph before them."""
-    return {
-        "format": "classes",
-        "classes": [class_rows(kerning.left), class_rows(kerning.right), []],
-        "first": sorted(kerning.right),
-        # In the order of the input's classes, those of the second glyph: so its rules are found by halves. At most one
-        # of them matches, whatever the order.
-        "rules": [
-            [[first], [second], [], [[0, called[tuple(records[distance][1])]]]]
-            for (first, second), distance in sorted(kerning.distances.items(), key=lambda pair: pair[0][::-1])
-        ],
-    }
+        context = {"format": "coverage", "rules": [rule]}
+        lookups.append({"flags": IGNORE_MARKS, "type": "context", "subtables": [context]})

@@ -85,21 +85,40 @@ class Rows(unittest.TestCase):
     def test_pairs(self) -> None:
         """The half that is rounded down is the left glyph's, and the rest moves the right glyph."""
         gpos = self.gpos(pairs(given={(A, V): -75, (T, STOP): -101}))
-        first, second = (gpos["lookups"][index] for index in gpos["features"][0][1])
-        rows = [[A, V, [0, 0, -38, 0], None], [T, STOP, [0, 0, -51, 0], None]]
-        self.assertEqual(first, {"flags": 8, "type": "pair", "subtables": [rows]})
-        self.assertEqual((second["type"], second["flags"]), ("chain", 8))
-        called = {rule[1][0]: rule[3][0][1] for rule in second["subtables"][0]["rules"]}
-        numbers = dict(second["subtables"][0]["classes"][1])
-        moved = gpos["lookups"][called[numbers[V]]]
-        self.assertEqual(moved, {"type": "single", "subtables": [[[V, [-37, 0, -37, 0]]]]})
+        [called], [called_by] = [0], gpos["features"][0][1]
+        rows = [
+            [A, V, [0, 0, -38, 0], [-37, 0, -37, 0]],
+            [T, STOP, [0, 0, -51, 0], [-50, 0, -50, 0]],
+        ]
+        self.assertEqual(gpos["lookups"][called], {"flags": 8, "type": "pair", "subtables": [rows]})
+        context = {"format": "coverage", "rules": [[[], [[A, T]], [], [[0, called]]]]}
+        self.assertEqual(gpos["lookups"][called_by], {"flags": 8, "type": "context", "subtables": [context]})
 
     def test_classes(self) -> None:
+        """A row of the array is a class of left glyphs, a column one of right glyphs; column 0 is that of the others."""
         for is_apple, version in ((False, 0), (True, 1.0)):
             gpos = self.gpos(classes(is_apple, 0 if is_apple else HORIZONTAL), version=version)
-            rows = gpos["lookups"][gpos["features"][0][1][0]]["subtables"][0]
-            expected = [[A, V, -25], [T, V, 2], [T, STOP, -30]]
-            self.assertEqual([[a, b, record[2]] for a, b, record, _ in rows], sorted(expected))
+            forward, _, backward, _ = (lookup["subtables"][0] for lookup in gpos["lookups"])
+            self.assertEqual(forward["first"], [A, V, T])
+            self.assertEqual(forward["class1"], [[A, 1], [V, 0], [T, 2]])
+            self.assertEqual(forward["class2"], [[V, 1], [T, 0], [STOP, 2]])
+            distances = [[0, 0, 0], [0, -50, 0], [0, 4, -60]]
+            halved = [[[[0, 0, each // 2, 0], [each // 2, 0, each // 2, 0]] for each in row] for row in distances]
+            self.assertEqual(forward["records"], halved)
+            self.assertEqual(backward["first"], list(range(1 << 16)))
+            self.assertEqual((backward["class1"], backward["class2"]), (forward["class2"], forward["class1"]))
+            self.assertEqual(backward["records"], [[cell[::-1] for cell in row] for row in zip(*halved)])
+
+    def test_order(self) -> None:
+        """Pairs in another order are sorted, and of those that are alike the first one counts."""
+        table = pairs(given={(A, V): -75, (T, STOP): -101, (V, A): 6})
+        path = write_font(self.path, [table])
+        data = bytearray(Path(path).read_bytes())
+        at = data.index(struct.pack(">2Hh", A, V, -75))
+        data[at : at + 18] = struct.pack(">2Hh2Hh2Hh", T, STOP, -100, A, V, -50, T, STOP, 4)
+        Path(path).write_bytes(data)
+        pair = json_of("font_to_json", path)["gpos"]["lookups"][0]["subtables"][0]
+        self.assertEqual([[a, b, record[2]] for a, b, record, _ in pair], [[A, V, -25], [T, STOP, -50]])
 
     def test_systems(self) -> None:
         """The feature is added where a system lacks it; right-to-left scripts have their own, Hebrew has none."""
@@ -118,8 +137,8 @@ class Rows(unittest.TestCase):
         self.assertNotEqual(forward, backward)
         self.assertNotIn(forward, scripts["latn"][1]["TRK "]["features"])
         self.assertEqual(self.told, ["`kern` for Hebrew, which GPOS lacks"])
-        pair = gpos["lookups"][gpos["features"][backward][1][0]]["subtables"][0]
-        self.assertIn([ALEF, ZAIN, [-16, 0, -16, 0], None], pair)
+        pair = gpos["lookups"][gpos["features"][backward][1][0] - 1]["subtables"][0]
+        self.assertIn([ALEF, ZAIN, [-16, 0, -16, 0], [0, 0, -17, 0]], pair)
 
     def test_beside_gpos(self) -> None:
         """Where each system has the feature nothing is added, and nothing is told."""
@@ -160,14 +179,19 @@ class Rows(unittest.TestCase):
         )
 
     def test_damaged(self) -> None:
-        """A subtable that is cut, or has more distances than the limit, is refused in one line."""
+        """A table that is cut, or has more rows than the limit, is refused in one line."""
         cut = classes()
         cut.data = cut.data[:20]
-        wide = KernTable_format_unkown(2)
-        numbers = struct.pack(">1500H", *range(60, 60 + 1500))
-        wide.data = struct.pack(">HHBB4H2H", 0, 18 + 3000, 2, HORIZONTAL, 2, 14, 14, 14, 0, 1500) + numbers
-        for table, says in ((cut, b"table kern: a subtable is cut short"), (wide, b"more than 1,048,576 distances")):
-            ran = run("font_to_json", write_font(self.path, [table]))
+        # Subtables of no length share their bytes.
+        shared = KernTable_format_unkown(0)
+        shared.data = struct.pack(">2H2B", 0, 0, 0, HORIZONTAL) + struct.pack(">4H", 5000, 0, 0, 0) + bytes(30000)
+        for table, count, says in ((cut, 1, b"table kern: a subtable is cut short"), (shared, 1000, b"more than 4,194,304 rows")):
+            path = write_font(self.path, [table])
+            data = bytearray(Path(path).read_bytes())
+            at = data.index(table.data) - 2
+            data[at : at + 2] = struct.pack(">H", count)
+            Path(path).write_bytes(data)
+            ran = run("font_to_json", path)
             self.assertEqual((ran.returncode, ran.stdout), (3, b""))
             self.assertIn(says, ran.stderr)
             self.assertEqual(ran.stderr.count(b"\n"), 1)
