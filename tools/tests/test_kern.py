@@ -1,5 +1,6 @@
 """The table `kern` as lookups of GPOS: rows worked out by hand, and lines beside hb-shape where the program is built."""
 
+import re
 import shutil
 import struct
 import subprocess
@@ -11,12 +12,16 @@ from typing import Any
 from support import DEJAVU, json_of, run
 
 from building.places import PROGRAM, standing
+from fontTools import unicodedata
 from fontTools.feaLib.builder import addOpenTypeFeaturesFromString
 from fontTools.fontBuilder import FontBuilder
 from fontTools.pens.ttGlyphPen import TTGlyphPen
 from fontTools.ttLib import TTFont, newTable
 from fontTools.ttLib.tables._k_e_r_n import KernTable_format_0, KernTable_format_unkown
+from fontTools.unicodedata import Scripts as ScriptNames
 from formats.rules import font_faults
+from fontjson import kern
+from sources.crates import ROOT
 
 CHARACTERS = "AVT.\u0301\u0632\u0627\u05d0\u05d1\u0391"
 NAMES = [".notdef", *(f"g{ord(character):04X}" for character in CHARACTERS)]
@@ -68,6 +73,35 @@ def write_font(path: Path, subtables: list[Any], features: str = "", version: fl
     font.font["kern"] = kern
     font.save(path)
     return str(path)
+
+
+class Scripts(unittest.TestCase):
+    """The scripts from right to left that crates/font_kern knows are those of the converter, of which Hungarian is none."""
+
+    def test_scripts(self) -> None:
+        text = (ROOT / "crates/font_kern/src/scripts.rt").read_text()
+        known = dict(re.findall(r"script::([A-Z_]+),\s+// (....)\n", text))
+        scripts = {unicodedata.script_name(script): script for script in ScriptNames.NAMES}
+        backward = {
+            name.upper().replace(" ", "_"): unicodedata.ot_tags_from_script(script)[0]
+            for name, script in scripts.items()
+            if unicodedata.script_horizontal_direction(script, "LTR") == "RTL" and script not in ("Hung", "Hebr")
+        }
+        # Scripts that are newer than fontTools' tables have no name there.
+        self.assertEqual({**known, **backward}, known)
+        self.assertLessEqual(set(known) - set(backward), {"GARAY"})
+        self.assertTrue(kern.backward("hebr"))
+        for tag in known.values():
+            if tag != "gara" or "Gara" in ScriptNames.NAMES:
+                self.assertTrue(kern.backward(tag), tag)
+
+    def test_blocks(self) -> None:
+        """Each character of such a script is of the blocks that the crate looks at."""
+        blocks = (range(0x590, 0x900), range(0xFB1D, 0xFF00), range(0x10800, 0x11000), range(0x1E800, 0x1F000))
+        for number in range(0x110000):
+            tag = unicodedata.ot_tags_from_script(unicodedata.script(chr(number)))[0]
+            if kern.backward(tag):
+                self.assertTrue(any(number in block for block in blocks), hex(number))
 
 
 class Rows(unittest.TestCase):

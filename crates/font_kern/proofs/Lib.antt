@@ -1,0 +1,6 @@
+mod Appended
+mod Headers
+mod Kept
+mod Listed
+mod Picked
+mod Served

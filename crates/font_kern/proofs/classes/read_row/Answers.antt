@@ -1,0 +1,17 @@
+use Rattle.std.proofs.Common.{◌+◌, ℕ, arith}
+use Rattle.std.proofs.lemmas.Grind.{common_steps}
+use Rattle.font_bytes.proofs.Recorded.{records_more, records_end}
+use Rattle.font_common.proofs.Coverages.{one_done}
+use Rattle.font_kern.specs.Pairs.{kern_values}
+use Rattle.font_kern.specs.Classes.{distance_at}
+use Rattle.font_kern.proofs.classes.read_row.Goals as goal
+
+pub loop-index-preserved : goal.loop-index-preserved
+loop-index-preserved c =
+    let more = records_more (λ (o : ℕ). kern_values c.args.is_backward (distance_at c.args.table.now o)) c.args.inner.width c.args.at c.args.inner.count c.loop-index.index (omega arith) in
+    grind (arith, common_steps, one_done, more)
+
+pub returns : goal.returns
+returns c =
+    let end = records_end (λ (o : ℕ). kern_values c.args.is_backward (distance_at c.args.table.now o)) c.args.inner.width c.args.at c.args.inner.count c.loop-index.index (omega arith) in
+    grind (arith, common_steps, end)
