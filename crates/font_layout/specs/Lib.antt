@@ -1,0 +1,3 @@
+pub mod Substitution
+pub mod Positioning
+pub mod Layout
