@@ -52,7 +52,7 @@ def put_entries(prefix: Path, entries: Entries) -> int:
     try:
         return place_all(prefix, entries)
     except OSError as error:
-        error.strerror = f"{error.strerror or error}; {NAME} run again goes on, with --uninstall it takes away what it wrote"
+        error.strerror = f"{error.strerror or error}; {NAME} run again completes it, --uninstall takes away what it wrote"
         raise
 
 
