@@ -9,13 +9,14 @@ import signal
 import subprocess
 import tempfile
 import threading
+import time
 import unittest
 import xml.etree.ElementTree as tree
 from pathlib import Path
 from typing import Any
 from unittest import mock
 
-from support import TOOLS, interruptible, write_stand_in
+from support import TOOLS, interruptible, write_files, write_stand_in
 
 from common.printing import clean, clean_name
 from hostile_fonts import plain, saved
@@ -174,6 +175,21 @@ class Streams(Printed):
                 process.send_signal(signal.SIGINT)
                 ended = process.communicate(timeout=60)
         self.assertEqual((process.returncode, *ended), (INTERRUPTED, b"", b""))
+
+    def test_interrupted_early(self) -> None:
+        """A tool is interrupted while a module is loaded, here one that takes long, and says nothing."""
+        module = f"import time\nopen({str(self.folder / 'loads')!r}, 'w').close()\ntime.sleep(60)\n"
+        write_files(self.folder / "slow", {"argparse.py": module, "difflib.py": module})
+        environment = {**self.environment, "PYTHONPATH": str(self.folder / "slow")}
+        for tool in ("font_to_json", "shape", "hb_shape", "vendor", "install"):
+            streams = {"stdout": subprocess.PIPE, "stderr": subprocess.PIPE, "env": environment}
+            with subprocess.Popen([TOOLS / tool, "--help"], preexec_fn=interruptible, **streams) as process:
+                while not (self.folder / "loads").exists() and process.poll() is None:
+                    time.sleep(0.01)
+                process.send_signal(signal.SIGINT)
+                ended = process.communicate(timeout=60)
+            self.assertEqual((process.returncode, *ended), (INTERRUPTED, b"", b""), tool)
+            (self.folder / "loads").unlink()
 
     def test_pictures(self) -> None:
         """A picture that can't be written is told before a line is printed; one may go to standard output."""

@@ -94,6 +94,29 @@ class Written(unittest.TestCase):
             self.assertEqual([each.name for each in self.folder.iterdir()], left)
         self.assertEqual((self.folder / "whole").read_text(), "whole\n")
 
+    def test_tools_that_write_files(self) -> None:
+        """Each names the file that can't be written whole, and leaves no half of one."""
+        write_files(self.folder, {"other/crates.txt": "#\n"})
+        rows = (["hostile", "--write", self.folder / "attacks", "removed ignorables"], ["vendor", self.folder / "other"])
+        for tool, *words in rows:
+            ran = self.ran([TOOLS / tool, *words], UNBUFFERED, preexec_fn=limited(SMALL))
+            self.assertEqual((ran.returncode, ran.stderr.count("\n")), (FILES, 1), ran.stderr)
+            self.assertIn(f"{self.folder}/", ran.stderr)
+            self.assertIn(": File too large", ran.stderr)
+        found = [path for path in self.folder.rglob("*") if path.is_file()]
+        self.assertFalse([path for path in found if path.name.startswith(NEW)])
+        self.assertEqual([path for path in found if path.stat().st_size == SMALL], [])
+
+    def test_pictures(self) -> None:
+        """A picture stays as it was where a new one can't be written whole."""
+        path = self.folder / "old.svg"
+        code = "import sys; sys.path.insert(0, sys.argv[1])\nfrom shaping.cli import write\nfrom common.faults import run_tool\n"
+        code += "run_tool('shape', lambda words: write(sys.argv[2], b'<svg/>' * 1000) or 0)"
+        path.write_text("<svg>old</svg>")
+        ran = self.ran(["/usr/bin/python3", "-c", code, TOOLS, path], UNBUFFERED, preexec_fn=limited(SMALL))
+        self.assertEqual((ran.returncode, ran.stderr), (FILES, f"shape: {path}: File too large\n"))
+        self.assertEqual((path.read_text(), list(self.folder.iterdir())), ("<svg>old</svg>", [path]))
+
     def test_write_file(self) -> None:
         """A file keeps its mode, a link leads to the same file, a pipe is written to, and a folder is named."""
         path, link = self.folder / "file", self.folder / "link"
