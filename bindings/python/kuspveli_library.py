@@ -1,6 +1,8 @@
 """Where the shared library is: the one that KUSPVELI_LIBRARY names, else that beside this file, that of the clone, or
-an installed one."""
+an installed one, last of all that which the system's loader knows."""
 
+import contextlib
+import ctypes
 import os
 import stat
 import sys
@@ -12,8 +14,10 @@ HERE = Path(__file__).resolve().parent
 FOLDER, CLONE = "kuspveli.libs", "clone.txt"
 LIBRARY, UNPROVED = "libkuspveli.so", "unproved"
 VARIABLE = "KUSPVELI_LIBRARY"
-# What tools/install notes in lib/kuspveli, where it puts the tools and this file for them.
-INSTALLED = "installed.sha256"
+# The name by which the loader knows a library with the calls that the module declares.
+SONAME = "libkuspveli.so.0"
+# What tools/install notes in lib/kuspveli, where it puts the tools and this file for them, and what stands there in any case.
+INSTALLED = ("installed.sha256", "VERSION")
 # Where tools/install mostly puts it, besides the folder of this Python.
 SYSTEM = ("/usr/local", "/usr")
 BUILT_BY = (
@@ -33,11 +37,15 @@ def find() -> str:
             if is_unproved(path):
                 print(f"kuspveli: unproved: {path}; tools/build_library proves and builds it", file=sys.stderr)
             return str(path)
+    with contextlib.suppress(OSError):
+        ctypes.CDLL(SONAME)
+        return SONAME
     sought = ", ".join(dict.fromkeys(str(path.parent) for path in places()))
     noted = noted_clone()
     unsafe = [str(path) for path in (built_places(noted) if noted else []) if path.is_file() and not is_safe(path)]
     passed = f"; passed over, since others may write there: {', '.join(unsafe)}" if unsafe else ""
-    raise ImportError(f"{LIBRARY} is not there: {BUILT_BY}, and {VARIABLE} names another file (sought in {sought}{passed})")
+    sought += f", and as {SONAME}{passed}"
+    raise ImportError(f"{LIBRARY} is not there: {BUILT_BY}, and {VARIABLE} names another file (sought in {sought})")
 
 
 def places() -> Iterator[Path]:
@@ -49,7 +57,7 @@ def places() -> Iterator[Path]:
         yield from built_places(root)
     elif noted is not None:
         yield from filter(is_safe, built_places(noted))
-    if (HERE.parent.parent / INSTALLED).is_file():
+    if root is None and any((HERE.parent.parent / name).is_file() for name in INSTALLED):
         yield HERE.parent.parent.parent / LIBRARY
     for folder in os.environ.get("LD_LIBRARY_PATH", "").split(":"):
         if folder:

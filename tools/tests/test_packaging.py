@@ -126,11 +126,25 @@ class Found(unittest.TestCase):
         with mock.patch.dict(os.environ, {"LD_LIBRARY_PATH": f"/none:{self.root}/own"}):
             self.assertEqual(self.found(), ("own/libkuspveli.so", ""))
 
+    def test_loader(self) -> None:
+        """Where no place has a file, the loader is asked for the soname; of what it finds the name alone is known."""
+        loaded = mock.patch.multiple(library, SYSTEM=(), SONAME="libc.so.6")
+        with loaded:
+            self.assertEqual(library.find(), "libc.so.6")
+            self.put("prefix/lib/libkuspveli.so")
+            self.assertEqual(self.found()[0], "prefix/lib/libkuspveli.so")
+
+    def test_unpacked(self) -> None:
+        """Beside the tools of an archive that was unpacked, which has VERSION and no list of what was installed."""
+        self.put("clone/VERSION", "libkuspveli.so", "prefix/lib/libkuspveli.so")
+        self.assertEqual(self.found()[0], "libkuspveli.so")
+
     def test_missing(self) -> None:
         """One line says what builds it, and where it was sought."""
         with mock.patch.dict(os.environ, {library.VARIABLE: "/none.so"}):
             self.assertRaisesRegex(ImportError, f"^KUSPVELI_LIBRARY names /none.so, and .*{BUILDS}", library.find)
-        with mock.patch.object(library, "SYSTEM", ()), self.assertRaises(ImportError) as caught:
+        alone = mock.patch.multiple(library, SYSTEM=(), SONAME="libnone.so.0")
+        with alone, self.assertRaises(ImportError) as caught:
             library.find()
         told = str(caught.exception)
         self.assertTrue(told.startswith(f"libkuspveli.so is not there: {BUILDS}") and "\n" not in told, told)

@@ -5,9 +5,7 @@ use std::{env, error::Error, fs};
 
 fn main() -> Result<(), Box<dyn Error>> {
     let files: Vec<String> = env::args().skip(1).collect();
-    let [tables, fonts @ ..] = files.as_slice() else {
-        return Err("words TABLES LATIN ARABIC DEVANAGARI".into());
-    };
+    let (tables, fonts) = files.split_first().ok_or("words TABLES LATIN ARABIC DEVANAGARI")?;
     let mut tables = Tables::new(&fs::read(tables)?)?;
     for (file, word) in fonts.iter().zip(["office", "السلام", "हिन्दी"]) {
         let mut font = Font::with_tables(&mut tables, &fs::read(file)?)?;

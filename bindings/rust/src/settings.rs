@@ -130,13 +130,17 @@ fn range_of(text: &str) -> Result<(u32, u32), NoFeature> {
     if text.is_empty() {
         return Ok((0, u32::MAX));
     }
-    let Some((start, end)) = text.split_once(':') else {
-        let start = number(text)?;
-        return Ok((start, start.checked_add(1).ok_or(NoFeature)?));
-    };
-    let start = if start.is_empty() { 0 } else { number(start)? };
-    let end = if end.is_empty() { u32::MAX } else { number(end)? };
-    Ok((start, end))
+    match text.split_once(':') {
+        None => {
+            let start = number(text)?;
+            Ok((start, start.checked_add(1).ok_or(NoFeature)?))
+        }
+        Some((start, end)) => {
+            let start = if start.is_empty() { 0 } else { number(start)? };
+            let end = if end.is_empty() { u32::MAX } else { number(end)? };
+            Ok((start, end))
+        }
+    }
 }
 
 impl fmt::Display for NoFeature {
