@@ -51,7 +51,8 @@ def make(folder: Path, root: Path, *, is_proved: bool) -> list[str]:
     if is_proved:
         check_clean(source)
     *programs, archive = built_places(root, is_proved)
-    built = Built(root, {place.target.name: place for place in programs}, archive, link(root, archive.file))
+    library = link(root, archive.file, is_last=is_proved)
+    built = Built(root, {place.target.name: place for place in programs}, archive, library)
     proofs = proofs_text(built, source, read_proved(built))
     folder.parent.mkdir(parents=True, exist_ok=True)
     with tempfile.TemporaryDirectory(dir=folder.parent, prefix=f".{folder.name}-") as name:

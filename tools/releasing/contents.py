@@ -32,9 +32,9 @@ ABOUT = {
     "kuspveli-unicode-to-json": "writes the Unicode Character Database as JSON",
 }
 DOCUMENTS = (
-    "README.md", "CHANGELOG.md", "SECURITY.md", "LICENSE", "data/LICENSE.txt", "docs/API.md", "docs/DIFFERENCES.md",
-    "docs/SPEED.md", "docs/THEOREM.md", "docs/TOOLS.md", "docs/pictures/office.svg", "docs/pictures/shakti.svg",
-    "docs/pictures/speed.svg",
+    "README.md", "CHANGELOG.md", "SECURITY.md", "LICENSE", "data/LICENSE.txt", "docs/API.md", "docs/CONTRACTS.md",
+    "docs/DIFFERENCES.md", "docs/SPEED.md", "docs/THEOREM.md", "docs/TOOLS.md", "docs/pictures/office.svg",
+    "docs/pictures/shakti.svg", "docs/pictures/speed.svg",
 )  # fmt: skip
 EXAMPLES = ("font.json", "ligature_font.json", "ligature_text.txt", "paragraph.c", "paragraph.py", "tables.json")
 DOC, MAN = "share/doc/kuspveli", "share/man/man1"

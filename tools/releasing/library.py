@@ -8,7 +8,7 @@ from pathlib import Path
 
 from building.linking import call
 from common.faults import DATA, FILES, ToolFault
-from common.version import numbers_of, packed, soname, symbol_version, version
+from common.version import numbers_of, packed, soname, version
 
 MAP = Path(__file__).parent / "kuspveli.map"
 HEADER = "include/kuspveli.h"
@@ -42,10 +42,13 @@ class Library:
         return max(map(int, GLIBC.findall(self.text)))
 
 
-def link(root: Path, archive: Path) -> Library:
-    """Links the archive's object, and holds the result to the header and to VERSION."""
+def link(root: Path, archive: Path, *, is_last: bool = False) -> Library:
+    """Links the archive's object, and holds the result to the header and to VERSION. Of what is no release yet, calls may be
+    of the version after it; is_last refuses that."""
     number, calls = version(), read_map()
     check_calls((root / HEADER).read_text(encoding="utf-8"), calls, number)
+    if is_last:
+        check_newest(calls, number)
     with tempfile.TemporaryDirectory() as folder:
         made = Path(folder) / f"libkuspveli.so.{number}"
         whole = ("-Wl,--whole-archive", archive, "-Wl,--no-whole-archive")
@@ -68,11 +71,14 @@ def check_calls(header: str, calls: dict[str, str], number: str) -> None:
     if said != number:
         raise ToolFault(DATA, f"VERSION is {number}, and {HEADER} has {said}")
     declared = set(CALL.findall(header))
-    node = symbol_version(number)
     for name in sorted(declared - calls.keys()):
-        raise ToolFault(DATA, f"{HEADER} has {name}, and {MAP.name} no version for it: it stands in {node} if it is new")
+        raise ToolFault(DATA, f"{HEADER} has {name}, and {MAP.name} doesn't: it stands there under the version that brings it")
     for name in sorted(calls.keys() - declared):
-        raise ToolFault(DATA, f"{MAP.name} has {name}, and {HEADER} doesn't: a call that goes raises the first number")
+        raise ToolFault(DATA, f"{MAP.name} has {name}, and {HEADER} doesn't: a call less raises the first number")
+
+
+def check_newest(calls: dict[str, str], number: str) -> None:
+    """Refuses calls of a version that comes later."""
     newest = max(calls.values(), key=lambda each: tuple(map(int, each.split("."))))
     if tuple(map(int, newest.split("."))) > numbers_of(number)[:2]:
         raise ToolFault(DATA, f"{MAP.name} has calls of {newest}, and VERSION is {number}")

@@ -99,13 +99,15 @@ class Calls(unittest.TestCase):
         library.check_calls(self.header(), calls, "0.2.0")
         rows = [
             ("VERSION is 0.2.1, and include/kuspveli.h has 0.2.0", self.header(), calls, "0.2.1"),
-            ("kus_new, and kuspveli.map no version for it: it stands in KUSPVELI_0.2", self.header(new), calls, "0.2.0"),
+            ("kus_new, and kuspveli.map doesn't: it stands there under", self.header(new), calls, "0.2.0"),
             ("kuspveli.map has kus_old", self.header(), {**calls, "kus_old": "0.1"}, "0.2.0"),
-            ("has calls of 0.10, and VERSION is 0.2.0", self.header(), {"kus_version": "0.10"}, "0.2.0"),
         ]  # fmt: skip
         for told, header, listed, number in rows:
             with self.assertRaisesRegex(ToolFault, told):
                 library.check_calls(header, listed, number)
+        library.check_newest({"kus_version": "0.9"}, "0.10.0")
+        with self.assertRaisesRegex(ToolFault, "has calls of 0.10, and VERSION is 0.9.2"):
+            library.check_newest({"kus_version": "0.10"}, "0.9.2")
 
 
 class Logs(unittest.TestCase):
