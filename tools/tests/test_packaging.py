@@ -49,12 +49,12 @@ def stand_in(folder: Path, number: str = VERSION) -> Path:
 
 class Version(unittest.TestCase):
     def test_one(self) -> None:
-        """What can't read VERSION has the same: Rust's package and its lock, and the newest heading of the changes."""
+        """What can't read VERSION has the same: Rust's package and its lock, and the newest version of the changes."""
         self.assertRegex(VERSION, r"^\d+\.\d+\.\d+$")
         package = tomllib.loads((RUST / "Cargo.toml").read_text())["package"]
         [locked] = tomllib.loads((RUST / "Cargo.lock").read_text())["package"]
         self.assertEqual([package["version"], locked["version"]], [VERSION, VERSION])
-        self.assertEqual(re.findall(r"^## (\S+)", (ROOT / "CHANGELOG.md").read_text(), re.MULTILINE)[0], VERSION)
+        self.assertEqual(re.findall(r"^## (\d\S*)", (ROOT / "CHANGELOG.md").read_text(), re.MULTILINE)[0], VERSION)
         self.assertEqual(library.version(), VERSION)
 
 
