@@ -116,10 +116,9 @@ def version() -> tuple[int, int, int]:
 
 
 def check_version(found: tuple[int, int, int]) -> None:
-    """Refuses a library of other calls: those of one first number are alike, before 1.0 those of one second number too."""
-    own = tuple(map(int, __version__.split(".")))
-    count = 1 if own[0] else 2
-    if found[:count] != own[:count]:
+    """Refuses a library of other calls: while the first number stays, calls are only added."""
+    own = tuple(map(int, __version__.partition("+")[0].split(".")))
+    if found[0] != own[0] or found[1] < own[1]:
         told = f"the library is of version {'.'.join(map(str, found))}, and kuspveli.py of {__version__}"
         raise ImportError(f"{LIBRARY._name}: {told}: {kuspveli_library.BUILT_BY}")
 

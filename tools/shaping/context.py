@@ -38,7 +38,8 @@ def shape_in_context(tables: Path, font: Path, texts: list[Text], given: Given, 
 
 def load() -> Any:
     """The bindings for Python over the library that is built, installed or named by KUSPVELI_LIBRARY."""
-    sys.path.append(str(BINDINGS))
+    # Its own, also where another one is installed.
+    sys.path.insert(0, str(BINDINGS))
     try:
         return importlib.import_module("kuspveli")
     except (AttributeError, ImportError) as missing:

@@ -192,12 +192,17 @@ class Pip(unittest.TestCase):
         self.assertFalse(Path(path).parent.exists())
 
     def test_other_version(self) -> None:
-        """A library of another version is refused by its file's name."""
+        """A library of another first number, or of an earlier second one, is refused by its file's name; a later one isn't."""
         self.install()
-        for number in ("2.0.0", "0.2.0", "1.1.0"):
+        first, second, _ = map(int, VERSION.split("."))
+        earlier = [f"{first}.{second - 1}.0"] if second else []
+        for number in (f"{first + 1}.{second}.0", *earlier, f"{first}.{second + 1}.0"):
             other = stand_in(self.root, number)
             self.environment["KUSPVELI_LIBRARY"] = str(other)
             ran = self.run_python("import kuspveli")
+            if number == f"{first}.{second + 1}.0":
+                self.assertEqual((ran.returncode, ran.stderr), (0, ""))
+                continue
             self.assertEqual(ran.returncode, 1)
             told = f"ImportError: {other}: the library is of version {number}, and kuspveli.py of {VERSION}: {BUILDS}"
             self.assertIn(told, ran.stderr)
