@@ -4,16 +4,14 @@ import ast
 import os
 import re
 import stat
-import subprocess
-import tempfile
 from pathlib import Path
 from typing import Iterator
 
 from building.places import Place
-from common.faults import FILES, WORDS, ToolFault
-from common.files import write_over
+from common.faults import WORDS, ToolFault
 from common.plan import Entries, Entry
 from common.version import version
+from releasing.library import link
 
 # The repository's own folders, as its tools know them, with what they need of them.
 OWN = "lib/kuspveli"
@@ -38,7 +36,7 @@ def layout(root: Path, prefix: Path, program: Place, library: Place) -> Entries:
     number = version()
     entries = {f"bin/{name}": Entry(link=f"../{OWN}/tools/{tool}") for name, tool in COMMANDS.items()}
     entries["include/kuspveli.h"] = entry_of(root / "include" / "kuspveli.h")
-    entries |= library_entries(library, number)
+    entries |= library_entries(root, library)
     entries["lib/pkgconfig/kuspveli.pc"] = Entry(pkg_config(prefix, number, library.is_proved), 0o644)
     for path in (*tool_files(root / "tools"), *(root / name for name in (*DATA, *BINDING)), program.file, program.stamp_file):
         entries[f"{OWN}/{path.relative_to(root)}"] = entry_of(path)
@@ -52,41 +50,16 @@ def entry_of(path: Path) -> Entry:
 # ---- the library
 
 
-def library_entries(library: Place, number: str) -> Entries:
+def library_entries(root: Path, library: Place) -> Entries:
     """The archive, the shared library under its whole version, and the links by which it is linked and loaded."""
     archive = library.folder / "libkuspveli.a"
-    whole, loaded = f"libkuspveli.so.{number}", soname(number)
+    shared = link(root, archive)
     return {
         "lib/libkuspveli.a": entry_of(archive),
-        f"lib/{whole}": Entry(shared_library(archive, number), 0o755),
-        f"lib/{loaded}": Entry(link=whole),
-        "lib/libkuspveli.so": Entry(link=loaded),
+        f"lib/{shared.file}": Entry(shared.text, 0o755),
+        f"lib/{shared.soname}": Entry(link=shared.file),
+        "lib/libkuspveli.so": Entry(link=shared.soname),
     }
-
-
-def interface(number: str) -> str:
-    """What versions with the same calls have in common: the first number, before 1.0 the first two."""
-    first, second, _ = number.split(".")
-    return f"{first}.{second}" if first == "0" else first
-
-
-def soname(number: str) -> str:
-    return f"libkuspveli.so.{interface(number)}"
-
-
-def shared_library(archive: Path, number: str) -> bytes:
-    """The archive's object linked as a shared library with a version, by which a loader knows a library of other
-    calls."""
-    with tempfile.TemporaryDirectory() as folder:
-        symbols, made = Path(folder) / "symbols", Path(folder) / "made.so"
-        write_over(symbols, f"KUSPVELI_{interface(number)} {{ global: kus_*; local: *; }};\n")
-        whole = ("-Wl,--whole-archive", archive, "-Wl,--no-whole-archive")
-        named = (f"-Wl,-soname,{soname(number)}", f"-Wl,--version-script={symbols}")
-        words: list[str | Path] = ["gcc", "-shared", "-Wl,-z,defs", *named, "-s", "-o", made, *whole]
-        ran = subprocess.run(words, capture_output=True, text=True, errors="replace", check=False)
-        if ran.returncode:
-            raise ToolFault(FILES, f"the shared library was not linked: {ran.stderr[-500:]}")
-        return made.read_bytes()
 
 
 def pkg_config(prefix: Path, number: str, is_proved: bool) -> bytes:
