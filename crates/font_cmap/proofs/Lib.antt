@@ -1,0 +1,4 @@
+pub mod Steps
+pub mod Rising
+pub mod Exact
+pub mod Varied

@@ -1,0 +1,10 @@
+pub mod Ranges
+pub mod Rows
+pub mod Subtables
+pub mod Encodings
+pub mod Roman
+pub mod Encoded
+pub mod Characters
+pub mod Glyphs
+pub mod Variations
+pub mod Laws

@@ -1,0 +1,21 @@
+use Rattle.std.proofs.Common.{◌≡◌, ◌+◌, ◌-◌, ◌++◌, Some, None, true, sym, subst, arith, List, ℕ}
+use Rattle.std.specs.Ordering.{nat_cmp}
+use Rattle.buffer_rows.specs.Keys.{is_rising}
+use Rattle.layout_common.specs.declared.glyph_row.GlyphRow.{GlyphRow}
+use Rattle.font_metrics.specs.Values.{value_rows}
+use Rattle.buffer_glyphs.specs.declared.names.hb_glyph_extents_t.{hb_glyph_extents_t}
+use Rattle.font_metrics.specs.Extents.{extents_at}
+use Rattle.font_metrics.proofs.Rows.{value_pushed, value_end, value_rows_rise}
+use Rattle.font_metrics.proofs.extents.extent_rows.Goals as goal
+
+pub loop-glyph-preserved : goal.loop-glyph-preserved
+loop-glyph-preserved c =
+    let pushed = value_pushed (extents_at c.args.boxes.now) c.loop-glyph.rows.items (value_rows (extents_at c.args.boxes.now) 0 c.args.count) c.args.count c.loop-glyph.glyph (omega arith) c.loop-glyph.invariant in
+    let value = c.extents_at.ensures in
+    let rows = c.in_ok-push_value.ensures.ok in
+    cc (pushed, value, rows)
+
+pub new-requires : goal.new-requires
+new-requires c =
+    let all : c.loop-glyph.rows.items ≡ value_rows (extents_at c.args.boxes.now) 0 c.args.count = value_end (extents_at c.args.boxes.now) c.loop-glyph.rows.items (value_rows (extents_at c.args.boxes.now) 0 c.args.count) c.loop-glyph.glyph c.args.count (omega arith) c.loop-glyph.invariant in
+    subst (λ (rows : List (GlyphRow hb_glyph_extents_t)). is_rising nat_cmp (λ r. r.glyph) None rows ≡ true) (sym all) (value_rows_rise (extents_at c.args.boxes.now) c.args.count)
