@@ -1,0 +1,4 @@
+pub mod Widths
+pub mod RunRows
+pub mod Pushes
+pub mod Texts
