@@ -3,7 +3,7 @@ use Rattle.std.specs.Prelude.{ℕ, zero, suc, ◌+◌, ◌-◌, ◌*◌, ◌==�
 use Rattle.std.specs.List.{flat_map}
 use Rattle.std.specs.Ordering.{nat_cmp}
 use Rattle.font_bytes.specs.declared.fault.TableFault.{TableFault}
-use Rattle.font_bytes.specs.declared.fault.TableFault.TheVariants.{Kind, Order}
+use Rattle.font_bytes.specs.declared.fault.TableFault.TheVariants.{Order}
 use Rattle.font_bytes.specs.Results.{and_then}
 use Rattle.font_bytes.specs.Words.{need, word}
 use Rattle.font_bytes.specs.Records.{records}
@@ -82,10 +82,10 @@ range_classes room table at = and_then (need table (at + 4) (6 * word table (at 
 
 -- ---- both
 
--- the rows of a class definition table, by its format at 0
+-- the rows of a class definition table, by its format at 0; none of an unknown format
 abbrev pub classes_of_format : ℕ → List ℕ → ℕ → ℕ → Result (List (GlyphRow ℕ) × ℕ) TableFault
 classes_of_format room table at format =
-    if format == 1 then listed_classes room table at else (if format == 2 then range_classes room table at else Err (Kind at))
+    if format == 1 then listed_classes room table at else (if format == 2 then range_classes room table at else Ok ([], room))
 
 -- the rows of the class definition table at an offset, in its order, and the room that it leaves
 abbrev pub all_class_rows : ℕ → List ℕ → ℕ → Result (List (GlyphRow ℕ) × ℕ) TableFault

@@ -2,7 +2,7 @@
 use Rattle.std.specs.Prelude.{ℕ, zero, suc, ◌+◌, ◌-◌, ◌*◌, ◌==◌, ◌&&◌, nat_le, Bool, true, if◌then◌else◌, List, [], ◌∷◌, length, Result, Ok, Err}
 use Rattle.std.specs.List.{flat_map}
 use Rattle.font_bytes.specs.declared.fault.TableFault.{TableFault}
-use Rattle.font_bytes.specs.declared.fault.TableFault.TheVariants.{Kind, Order}
+use Rattle.font_bytes.specs.declared.fault.TableFault.TheVariants.{Order}
 use Rattle.font_bytes.specs.Results.{and_then}
 use Rattle.font_bytes.specs.Words.{need, word}
 use Rattle.font_bytes.specs.Records.{records}
@@ -66,9 +66,9 @@ range_glyphs table at = and_then (need table (at + 4) (6 * word table (at + 2)))
 
 -- ---- both
 
--- the glyphs of a coverage table, by its format at 0
+-- the glyphs of a coverage table, by its format at 0; none of an unknown format
 abbrev pub glyphs_of_format : List ℕ → ℕ → ℕ → Result (List ℕ) TableFault
-glyphs_of_format table at format = if format == 1 then listed_glyphs table at else (if format == 2 then range_glyphs table at else Err (Kind at))
+glyphs_of_format table at format = if format == 1 then listed_glyphs table at else (if format == 2 then range_glyphs table at else Ok [])
 
 -- the glyphs of the coverage table at an offset
 abbrev pub glyphs_at : List ℕ → ℕ → Result (List ℕ) TableFault

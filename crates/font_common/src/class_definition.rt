@@ -198,7 +198,7 @@ fn read_listed_or_ranges(
     match word(table, at) {
         1 => read_listed(alloc, table, at, room),
         2 => read_ranges(alloc, table, at, room),
-        _ => Err(TableFault::Kind(at)),
+        _ => Ok(Vec::new(alloc)),
     }
 }
 

@@ -120,7 +120,7 @@ pub fn read_coverage_glyphs(alloc: Global, table: &[u8], at: usize) -> Result<Ve
     match word(table, at) {
         1 => read_listed(alloc, table, at),
         2 => read_ranges(alloc, table, at),
-        _ => Err(TableFault::Kind(at)),
+        _ => Ok(Vec::new(alloc)),
     }
 }
 

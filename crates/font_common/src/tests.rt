@@ -49,7 +49,7 @@ fn damage_is_refused(rt: HostRuntime) -> Result<(), Fail> {
     let alloc = rt.alloc();
     refuses(&rt, alloc, &[0, 1, 0], TableFault::Short(0))?;
     refuses(&rt, alloc, &[0, 1, 0, 2, 0, 5, 0], TableFault::Short(4))?;
-    refuses(&rt, alloc, &[0, 3, 0, 0], TableFault::Kind(0))?;
+    reads(&rt, alloc, &[0, 3, 0, 0], &[])?;
     refuses(&rt, alloc, &[0, 1, 0, 2, 0, 5, 0, 4], TableFault::Order(0))?;
     refuses(
         &rt,
@@ -126,11 +126,21 @@ fn classes(
 #[test]
 fn classes_are_read(rt: HostRuntime) -> Result<(), Fail> {
     let listed = [0, 1, 0, 50, 0, 3, 0, 7, 0, 0, 0, 2];
-    classes(&rt, rt.alloc(), &listed, &[(49, 0), (50, 7), (51, 0), (52, 2)])?;
+    classes(
+        &rt,
+        rt.alloc(),
+        &listed,
+        &[(49, 0), (50, 7), (51, 0), (52, 2)],
+    )?;
     let ranges = [
         0, 2, 0, 3, 0, 0x30, 0, 0x31, 0, 2, 0, 0x40, 0, 0x41, 0, 3, 0, 0xd2, 0, 0xd3, 0, 1,
     ];
-    classes(&rt, rt.alloc(), &ranges, &[(0x31, 2), (0x32, 0), (0x40, 3), (0xd3, 1)])?;
+    classes(
+        &rt,
+        rt.alloc(),
+        &ranges,
+        &[(0x31, 2), (0x32, 0), (0x40, 3), (0xd3, 1)],
+    )?;
     let shared = [0, 2, 0, 2, 0, 1, 0, 2, 0, 8, 0, 2, 0, 3, 0, 9];
     classes(&rt, rt.alloc(), &shared, &[(1, 8), (2, 8), (3, 9)])
 }
