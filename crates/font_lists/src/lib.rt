@@ -12,3 +12,6 @@ pub mod tagged;
 pub mod variations;
 
 pub use definition::read_gdef;
+
+#[cfg(test)]
+mod tests;
