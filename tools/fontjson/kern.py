@@ -5,12 +5,15 @@ from typing import Any, Iterator
 from fontTools import unicodedata
 
 from fontjson.kern_subtables import Rows, Subtable, cut_short, read
+from fontjson.limits import refuse
 from fontjson.numbers import Row
 from fontjson.source import Source
 
 Value = dict[str, Any]
 TAG = "kern"
 IGNORE_MARKS = 8
+# Features or lookups of a table, with those of both directions.
+MOST_INDICES = 1 << 16
 # The scripts of which the first that GPOS has serves texts whose own script it lacks.
 USUAL_SCRIPTS = ("DFLT", "dflt", "latn")
 # Hebrew is positioned without GPOS where that lacks this script, and a row for it would end that.
@@ -43,6 +46,8 @@ def with_kerning(source: Source, gpos: Value | None) -> Value | None:
     if "Hebr" in scripts_of(source) and all(row[0] != HEBREW for row in rows):
         source.notes.changed("`kern` for Hebrew, which GPOS lacks")
     features, lookups = list(table["features"]), list(table["lookups"])
+    if len(features) + 2 > MOST_INDICES or len(lookups) + 4 * len(subtables) > MOST_INDICES:
+        raise refuse(f"table kern: more than {MOST_INDICES:,} features or lookups")
     places = {}
     for is_backward in sorted(lacking):
         places[is_backward] = len(features)

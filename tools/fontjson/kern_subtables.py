@@ -141,7 +141,7 @@ def by_classes(subtable: Subtable, is_backward: bool, rows: Rows) -> tuple[list[
         if value // 2 < column_count
     ]
     row_count = max((number + 1 for _, number in lefts), default=0)
-    rows.take(row_count * column_count)
+    rows.take((row_count + 1) * (column_count + 1))
     records = [
         [halves(distance_at(table, start + array_at + width * row + 2 * column), is_backward) for column in range(column_count)]
         for row in range(row_count)
