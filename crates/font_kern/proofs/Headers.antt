@@ -13,7 +13,7 @@ use Rattle.font_kern.specs.Subtables.{subtables_from, subtable_taken, header_siz
 -- the first subtable, and those after it
 pub subtables_step : (is_apple : Bool) (table : List ℕ) (room at count left : ℕ) → count ≢ 0 → count - 1 ≡ left
     → subtables_from is_apple table room at count ≡ and_then (taken room 64) (λ r. and_then (need table at (header_size is_apple))
-        (λ _. after (subtable_taken is_apple table at) (subtables_from is_apple table r (at + length_at is_apple table at) left)))
+    (λ _. after (subtable_taken is_apple table at) (subtables_from is_apple table r (at + length_at is_apple table at) left)))
 unfolding subtables_from
 subtables_step is_apple table room at zero left some e = absurd (some refl)
 subtables_step is_apple table room at (suc count) left some e = let f : count ≡ left = omega arith in rw (← f) refl
@@ -29,7 +29,7 @@ subtables_end is_apple table room at (suc count) done none = absurd (omega arith
 pub subtable_done : (is_apple : Bool) (table : List ℕ) (room at count left r : ℕ) (done : List Subtable) → count ≢ 0 → count - 1 ≡ left
     → taken room 64 ≡ Ok r → need table at (header_size is_apple) ≡ Ok tt
     → after done (subtables_from is_apple table room at count)
-        ≡ after (done ++ subtable_taken is_apple table at) (subtables_from is_apple table r (at + length_at is_apple table at) left)
+    ≡ after (done ++ subtable_taken is_apple table at) (subtables_from is_apple table r (at + length_at is_apple table at) left)
 subtable_done is_apple table room at count left r done some e took needed =
     rw (subtables_step is_apple table room at count left some e, took, needed)
     (after_after done (subtable_taken is_apple table at) (subtables_from is_apple table r (at + length_at is_apple table at) left))

@@ -16,7 +16,7 @@ listed_step table at glyph (suc count) some = let e : suc count - 1 ≡ count = 
 -- the value with an index, and those after it
 pub listed_more : (table : List ℕ) (at first count index : ℕ) → index < count
     → listed_values table (at + 2 * index) (first + index) (count - index)
-        ≡ record { glyph = first + index; value = word table (at + 2 * index) } ∷ listed_values table (at + 2 * (index + 1)) (first + (index + 1)) (count - (index + 1))
+    ≡ record { glyph = first + index; value = word table (at + 2 * index) } ∷ listed_values table (at + 2 * (index + 1)) (first + (index + 1)) (count - (index + 1))
 listed_more table at first count index inside =
     let some : count - index ≢ 0 = omega arith in
     let next : at + 2 * index + 2 ≡ at + 2 * (index + 1) = omega arith in

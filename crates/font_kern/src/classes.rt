@@ -108,7 +108,11 @@ fn read_class_list(
 }
 
 /// Appends the class of a left glyph, the row of the array that its value leads to.
-fn push_left(rows: &mut Vec<GlyphRow<u16>>, header: ClassHeader, row: GlyphRow<u16>) -> Result<(), AllocError>
+fn push_left(
+    rows: &mut Vec<GlyphRow<u16>>,
+    header: ClassHeader,
+    row: GlyphRow<u16>,
+) -> Result<(), AllocError>
     ensures { OnOk result (rows.new.items ≡ rows.old.items ++ left_class header row) }
 {
     if header.array <= row.value && 0 < header.width {
@@ -122,7 +126,11 @@ fn push_left(rows: &mut Vec<GlyphRow<u16>>, header: ClassHeader, row: GlyphRow<u
 }
 
 /// Appends the class of a right glyph, the column that its value leads to, if a row is that wide.
-fn push_right(rows: &mut Vec<GlyphRow<u16>>, header: ClassHeader, row: GlyphRow<u16>) -> Result<(), AllocError>
+fn push_right(
+    rows: &mut Vec<GlyphRow<u16>>,
+    header: ClassHeader,
+    row: GlyphRow<u16>,
+) -> Result<(), AllocError>
     ensures { OnOk result (rows.new.items ≡ rows.old.items ++ right_class header row) }
 {
     let value = row.value / 2;

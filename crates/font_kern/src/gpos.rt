@@ -34,7 +34,7 @@ fn push_feature(
 ) -> Result<(), TableFault>
     requires { length lookups.old.items + 2 * length subtables.now ≤ 65536 }
     ensures ok { OnOk result (with_feature is_backward table.now subtables.now
-            (record { features = features.old.items; lookups = lookups.old.items }, room.old.left)
+        (record { features = features.old.items; lookups = lookups.old.items }, room.old.left)
         ≡ Ok (record { features = features.new.items; lookups = lookups.new.items }, room.new.left)) }
     ensures refused { IfErr result (λ e. e ≢ TableFault.OutOfMemory → with_feature is_backward table.now subtables.now
         (record { features = features.old.items; lookups = lookups.old.items }, room.old.left) ≡ Err e) }
@@ -59,7 +59,7 @@ fn push_direction(
 ) -> Result<(), TableFault>
     requires { length lookups.old.items + 2 * length subtables.now ≤ 65536 }
     ensures ok { OnOk result (with_direction lacks is_backward table.now subtables.now
-            (record { features = features.old.items; lookups = lookups.old.items }, room.old.left)
+        (record { features = features.old.items; lookups = lookups.old.items }, room.old.left)
         ≡ Ok (record { features = features.new.items; lookups = lookups.new.items }, room.new.left)) }
     ensures refused { IfErr result (λ e. e ≢ TableFault.OutOfMemory → with_direction lacks is_backward table.now subtables.now
         (record { features = features.old.items; lookups = lookups.old.items }, room.old.left) ≡ Err e) }
@@ -68,7 +68,15 @@ fn push_direction(
     if !lacks {
         return Ok(());
     }
-    push_feature(alloc, is_backward, table, subtables, features, lookups, room)
+    push_feature(
+        alloc,
+        is_backward,
+        table,
+        subtables,
+        features,
+        lookups,
+        room,
+    )
 }
 
 /// Appends features and lookups for the directions of those of the scripts that lack the feature.
@@ -84,15 +92,19 @@ fn push_lists(
 ) -> Result<(), TableFault>
     requires { length lookups.old.items + 4 * length subtables.now ≤ 65536 }
     ensures ok { OnOk result (with_lists room.old.left table.now subtables.now inner.now
-            (record { features = features.old.items; lookups = lookups.old.items }) rows.now
+        (record { features = features.old.items; lookups = lookups.old.items }) rows.now
         ≡ Ok (record { features = features.new.items; lookups = lookups.new.items }, room.new.left)) }
     ensures refused { IfErr result (λ e. e ≢ TableFault.OutOfMemory → with_lists room.old.left table.now subtables.now inner.now
         (record { features = features.old.items; lookups = lookups.old.items }) rows.now ≡ Err e) }
 {
     let forward = lacks_direction(false, inner, rows);
-    push_direction(alloc, forward, false, table, subtables, features, lookups, room)?;
+    push_direction(
+        alloc, forward, false, table, subtables, features, lookups, room,
+    )?;
     let backward = lacks_direction(true, inner, rows);
-    push_direction(alloc, backward, true, table, subtables, features, lookups, room)
+    push_direction(
+        alloc, backward, true, table, subtables, features, lookups, room,
+    )
 }
 
 /// The scripts with the feature of their direction, and features.
@@ -146,7 +158,16 @@ fn with_rows(
         → with_rows room.old.left table.now subtables.now inner.now lookups.old.items rows.now ≡ Err e) }
 {
     let mut features = copied_features(alloc, inner.features())?;
-    push_lists(alloc, table, subtables, inner, rows, &mut features, lookups, room)?;
+    push_lists(
+        alloc,
+        table,
+        subtables,
+        inner,
+        rows,
+        &mut features,
+        lookups,
+        room,
+    )?;
     let kerned = kerned_lists(alloc, inner, rows, features)?;
     Ok(kerned)
 }
@@ -192,7 +213,15 @@ fn kerned_table(
     }
     let PositioningTable { inner, lookups } = gpos;
     let mut lookups = lookups.into_vec();
-    let kerned = with_subtables(alloc, table, subtables, characters, &inner, &mut lookups, room)?;
+    let kerned = with_subtables(
+        alloc,
+        table,
+        subtables,
+        characters,
+        &inner,
+        &mut lookups,
+        room,
+    )?;
     Ok(PositioningTable::new(kerned, Array::new(lookups)))
 }
 
@@ -221,7 +250,14 @@ fn kern_alone(
     if subtables.is_empty() || loses_marks(characters) {
         return Ok(None);
     }
-    let kerned = kerned_table(alloc, table, &subtables, characters, empty_table(alloc), room)?;
+    let kerned = kerned_table(
+        alloc,
+        table,
+        &subtables,
+        characters,
+        empty_table(alloc),
+        room,
+    )?;
     Ok(Some(kerned))
 }
 

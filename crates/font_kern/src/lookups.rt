@@ -33,11 +33,7 @@ fn pair_lookup(alloc: Global, pairs: PairPos) -> Result<PositioningLookup, Alloc
     ensures { IfOk result (λ l. l ≡ pair_lookup pairs) }
 {
     let subtables = pair_subtables(alloc, pairs)?;
-    Ok(PositioningLookup::parse(
-        IGNORE_MARKS,
-        None,
-        PositioningSubtables::Pair(subtables),
-    ))
+    Ok(PositioningLookup::parse(IGNORE_MARKS, None, PositioningSubtables::Pair(subtables)))
 }
 
 /// The call of a lookup at the first glyph of the input.
@@ -78,10 +74,7 @@ fn call_rule(
     })
 }
 
-fn one_rule(
-    alloc: Global,
-    rule: SequenceRule<Coverage>,
-) -> Result<ContextSubtable, AllocError>
+fn one_rule(alloc: Global, rule: SequenceRule<Coverage>) -> Result<ContextSubtable, AllocError>
     ensures { IfOk result (λ c. c ≡ ContextSubtable.Coverage (rule ∷ [])) }
 {
     let mut rules = Vec::new(alloc);
@@ -110,11 +103,7 @@ fn context_lookup(
     let rule = call_rule(alloc, firsts, index)?;
     let context = one_rule(alloc, rule)?;
     let subtables = context_subtables(alloc, context)?;
-    Ok(PositioningLookup::parse(
-        IGNORE_MARKS,
-        None,
-        PositioningSubtables::Context(subtables),
-    ))
+    Ok(PositioningLookup::parse(IGNORE_MARKS, None, PositioningSubtables::Context(subtables)))
 }
 
 /// Appends the two lookups of a subtable.
@@ -163,11 +152,7 @@ pub fn append_lookups(
 
 /// The feature of the contexts of so many subtables whose lookups begin at an index.
 #[tactic(auto, using(font_bytes::proofs::Recorded::records_more, font_bytes::proofs::Recorded::records_end))]
-pub fn kern_feature(
-    alloc: Global,
-    index: usize,
-    count: usize,
-) -> Result<FeatureRecord, AllocError>
+pub fn kern_feature(alloc: Global, index: usize, count: usize) -> Result<FeatureRecord, AllocError>
     requires { index + 2 * count ≤ 65536 }
     ensures { IfOk result (λ f. f ≡ kern_feature index count) }
 {

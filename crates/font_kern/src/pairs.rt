@@ -134,10 +134,7 @@ fn sort_pairs(rows: &mut Vec<PairRow>) -> Result<(), AllocError>
 }
 
 /// Pairs in the order of their glyphs; of pairs of the same glyphs the first one counts.
-pub fn rows_of_pairs(
-    alloc: Global,
-    pairs: Vec<PairRow>,
-) -> Result<SortedRows<PairRow>, AllocError>
+pub fn rows_of_pairs(alloc: Global, pairs: Vec<PairRow>) -> Result<SortedRows<PairRow>, AllocError>
     ensures { IfOk result (λ rows. rows ≡ rows_of_pairs pairs.items) }
 {
     let mut pairs = pairs;

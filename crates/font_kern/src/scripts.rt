@@ -130,7 +130,7 @@ pub const BACKWARD: [BackwardScript; 34] = [
     },
     BackwardScript {
         script: script::NKO,
-        // nko 
+        // nko
         tag: Tag(0x6e6b6f20),
     },
     BackwardScript {

@@ -14,6 +14,7 @@ const SUBTABLE_ROWS: usize = 64;
 const APPLE_BITS: u8 = 0xe0;
 /// OpenType's bits of a coverage: horizontal, minimum, cross-stream.
 const BITS: u8 = 7;
+
 const HORIZONTAL: u8 = 1;
 
 /// The form of the table, where its subtables begin, and how many there are.

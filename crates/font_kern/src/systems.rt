@@ -69,7 +69,10 @@ pub fn needs_kern(table: &ScriptsAndFeatures) -> bool
 fn some_lacks(table: &ScriptsAndFeatures) -> bool
     ensures { result ≡ list_any (lacks_kern table.now.features) table.now.scripts }
 {
-    table.scripts().iter().any(|script| lacks_kern(table, script))
+    table
+        .scripts()
+        .iter()
+        .any(|script| lacks_kern(table, script))
 }
 
 fn has_usual(table: &ScriptsAndFeatures) -> bool
@@ -182,8 +185,7 @@ fn source_lacks(table: &ScriptsAndFeatures, tag: Tag) -> bool
 pub fn lacks_direction(is_backward: bool, table: &ScriptsAndFeatures, rows: &[ScriptRow]) -> bool
     ensures { result ≡ lacks_direction is_backward table.now.features table.now.scripts rows.now }
 {
-    rows.iter()
-        .any(|row| row.is_backward == is_backward && source_lacks(table, row.tag))
+    rows.iter().any(|row| row.is_backward == is_backward && source_lacks(table, row.tag))
 }
 
 // ---- scripts with the feature

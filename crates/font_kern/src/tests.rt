@@ -17,8 +17,8 @@ const PAIRS: [u8; 30] = [
 
 /// Version 1.0, one subtable of format 2: rows of two distances; glyph 1 is in the second one, glyph 9 in column 1.
 const CLASSES: [u8; 44] = [
-    0, 1, 0, 0, 0, 0, 0, 1, 0, 0, 0, 36, 0, 2, 0, 0, 0, 4, 0, 16, 0, 22, 0, 28, 0, 1, 0, 1, 0, 32, 0, 9,
-    0, 1, 0, 2, 0, 0, 0, 0, 0, 7, 255, 206,
+    0, 1, 0, 0, 0, 0, 0, 1, 0, 0, 0, 36, 0, 2, 0, 0, 0, 4, 0, 16, 0, 22, 0, 28, 0, 1, 0, 1, 0, 32,
+    0, 9, 0, 1, 0, 2, 0, 0, 0, 0, 0, 7, 255, 206,
 ];
 
 fn values(table: &PositioningTable, index: u16, first: u16, second: u16) -> Option<PairValues> {
@@ -37,7 +37,11 @@ fn advances(table: &PositioningTable, index: u16, first: u16, second: u16) -> Op
     Some((values.first.x_advance, values.second?.x_advance))
 }
 
-fn kerned(alloc: Global, table: &[u8], room: usize) -> Result<Option<PositioningTable>, TableFault> {
+fn kerned(
+    alloc: Global,
+    table: &[u8],
+    room: usize,
+) -> Result<Option<PositioningTable>, TableFault> {
     let characters = [
         CharacterRow {
             character: 'A',
@@ -91,5 +95,10 @@ fn others_are_left_out(rt: HostRuntime) {
     other[9] = 5;
     assert!(rt; matches!(kerned(rt.alloc(), &other, 1000), Ok(None)));
     assert!(rt; matches!(kerned(rt.alloc(), &PAIRS, 67), Err(TableFault::TooLarge)));
-    assert!(rt; matches!(kerned(rt.alloc(), &PAIRS[..29], 1000), Err(TableFault::Short(18))));
+    assert!(rt;
+        matches!(
+            kerned(rt.alloc(), &PAIRS[..29], 1000),
+            Err(TableFault::Short(18))
+        )
+    );
 }

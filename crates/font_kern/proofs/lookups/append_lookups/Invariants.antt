@@ -7,6 +7,6 @@ use Rattle.font_kern.proofs.lookups.append_lookups.Given as goal
 abbrev pub invariant-loop-subtable : goal.invariant-loop-subtable
 invariant-loop-subtable l = record {
   all : after l.fn.lookups.items (kern_lookups l.is_backward l.table l.fn.room.left (length l.fn.lookups.items) l.subtables)
-    ≡ after l.lookups.items (kern_lookups l.is_backward l.table l.room.left (length l.lookups.items) (drop l.subtable-index l.subtables));
+      ≡ after l.lookups.items (kern_lookups l.is_backward l.table l.room.left (length l.lookups.items) (drop l.subtable-index l.subtables));
   two : length l.lookups.items ≡ length l.fn.lookups.items + 2 * l.subtable-index;
 }

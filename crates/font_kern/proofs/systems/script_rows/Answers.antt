@@ -9,4 +9,4 @@ pub returns-clause-rows : goal.returns-clause-rows
 returns-clause-rows c =
     c.in_ok-rows.ensures.only
     ∙ ap (λ (rows : List ScriptRow). rising_only nat_cmp (λ (r : ScriptRow). r.tag.0) None rows)
-      (c.in_ok-sort_rows.ensures ∙ ap (λ (rows : List ScriptRow). key_order (λ (r : ScriptRow). r.tag.0) rows) c.in_ok-offered.ensures)
+    (c.in_ok-sort_rows.ensures ∙ ap (λ (rows : List ScriptRow). key_order (λ (r : ScriptRow). r.tag.0) rows) c.in_ok-offered.ensures)
