@@ -80,7 +80,9 @@ class Scripts(unittest.TestCase):
 
     def test_scripts(self) -> None:
         text = (ROOT / "crates/font_kern/src/scripts.rt").read_text()
-        known = dict(re.findall(r"script::([A-Z_]+),\s+// (....)\n", text))
+        rows = re.findall(r"script::([A-Z_]+),[^}]*?Tag\(0x([0-9a-f]{8})\)", text)
+        known = {name: bytes.fromhex(tag).decode() for name, tag in rows}
+        self.assertEqual(len(known), 34)
         scripts = {unicodedata.script_name(script): script for script in ScriptNames.NAMES}
         backward = {
             name.upper().replace(" ", "_"): unicodedata.ot_tags_from_script(script)[0]
