@@ -230,7 +230,7 @@ fn faults_are_told(rt: HostRuntime) {
     let alloc = rt.alloc();
     let mut table = EXAMPLE;
     assert!(rt; is_refused(alloc, &table[..3], 10_000, TableFault::Short(0)));
-    assert!(rt; is_refused(alloc, &table[..101], 10_000, TableFault::Short(101)));
+    assert!(rt; is_refused(alloc, &table[..146], 10_000, TableFault::Short(102)));
     assert!(rt; is_refused(alloc, &table, 46, TableFault::TooLarge));
     table[101] = 2;
     assert!(rt; is_refused(alloc, &table, 10_000, TableFault::Kind(101)));
