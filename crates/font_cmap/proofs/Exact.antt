@@ -1,13 +1,12 @@
 -- The rows give each character the glyph that the rule of its range gives it.
-use Rattle.std.proofs.Common.{◌≡◌, ◌≢◌, ℕ, zero, suc, ◌+◌, ◌-◌, ◌<◌, ◌≤◌, inl, inr, ◌==◌, ◌&&◌, nat_le, nat_lt, min, max, Bool, true, false, if◌then◌else◌, Option, Some, None, List, [], ◌∷◌, ◌++◌, find, refl, sym, ap, ◌∙◌, subst, append_assoc, arith}
-use Rattle.std.specs.List.{flat_map}
-use Rattle.std.proofs.lemmas.Bool.{cases_Bool, cases_eq, cases_lt, and_parts}
+use Rattle.std.proofs.Common.{◌≡◌, ◌≢◌, ℕ, zero, suc, ◌+◌, ◌-◌, ◌<◌, ◌≤◌, inl, inr, ◌==◌, nat_le, nat_lt, min, max, true, false, if◌then◌else◌, List, [], ◌∷◌, ◌++◌, refl, ap, ◌∙◌, subst, append_assoc, arith}
+use Rattle.std.proofs.lemmas.Bool.{cases_Bool, cases_eq, cases_lt}
 use Rattle.std.proofs.lemmas.Bool.Decides.{nat_tests}
 use Rattle.layout_face.specs.declared.parts.CharacterRow.{CharacterRow}
 use Rattle.font_cmap.specs.declared.ranges.CharacterRange.{CharacterRange}
 use Rattle.font_cmap.specs.declared.ranges.RangeArray.{RangeArray}
 use Rattle.font_cmap.specs.Ranges.{glyph_in}
-use Rattle.font_cmap.specs.Rows.{is_character, glyph_among, glyph_of_row, character_row, rows_in, range_count, rows_of, ranges_of}
+use Rattle.font_cmap.specs.Rows.{is_character, glyph_among, character_row, rows_in, range_count, rows_of, ranges_of}
 use Rattle.font_cmap.specs.Encoded.{row_glyph}
 use Rattle.font_cmap.specs.Glyphs.{range_glyph}
 

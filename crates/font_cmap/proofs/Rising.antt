@@ -1,5 +1,5 @@
 -- The rows of numbers, of ranges and of encodings have rising characters.
-use Rattle.std.proofs.Common.{◌≡◌, ◌≢◌, ℕ, zero, suc, ◌+◌, ◌-◌, ◌<◌, ◌≤◌, ◌==◌, inl, inr, true, false, min, max, Option, Some, None, List, [], ◌∷◌, ◌++◌, refl, append_assoc, arith}
+use Rattle.std.proofs.Common.{◌≡◌, ℕ, zero, suc, ◌+◌, ◌-◌, ◌<◌, ◌≤◌, ◌==◌, inl, inr, true, min, max, Option, Some, None, List, [], ◌∷◌, ◌++◌, refl, append_assoc, arith}
 use Rattle.std.specs.List.{flat_map}
 use Rattle.std.specs.Ordering.{nat_cmp}
 use Rattle.std.proofs.lemmas.Bool.{cases_Bool, cases_lt, and_parts}
@@ -8,7 +8,6 @@ use Rattle.buffer_rows.specs.Keys.{is_above, is_rising, numbers_rise}
 use Rattle.layout_face.specs.declared.parts.CharacterRow.{CharacterRow}
 use Rattle.font_cmap.specs.declared.ranges.CharacterRange.{CharacterRange}
 use Rattle.font_cmap.specs.declared.ranges.RangeArray.{RangeArray}
-use Rattle.font_cmap.specs.declared.encodings.Encoding.{Encoding}
 use Rattle.font_cmap.specs.Roman.{upper_codes}
 use Rattle.font_cmap.specs.Ranges.{glyph_in}
 use Rattle.font_cmap.specs.Rows.{is_character, character_row, rows_in, range_count, rows_of, ranges_of}

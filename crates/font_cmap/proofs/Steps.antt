@@ -1,5 +1,5 @@
 -- The rows of numbers, step by step.
-use Rattle.std.proofs.Common.{◌≡◌, ◌≢◌, ℕ, zero, suc, ◌+◌, ◌-◌, ◌*◌, ◌<◌, ◌≤◌, max, List, [], ◌∷◌, ◌++◌, refl, sym, ap, ◌∙◌, append_assoc, arith}
+use Rattle.std.proofs.Common.{◌≡◌, ◌≢◌, ℕ, zero, suc, ◌+◌, ◌-◌, ◌<◌, ◌≤◌, max, List, [], ◌∷◌, ◌++◌, refl, sym, ap, ◌∙◌, append_assoc, arith}
 use Rattle.layout_face.specs.declared.parts.CharacterRow.{CharacterRow}
 use Rattle.font_cmap.specs.declared.ranges.CharacterRange.{CharacterRange}
 use Rattle.font_cmap.specs.Ranges.{glyph_in}

@@ -1,5 +1,5 @@
 -- The characters of the encodings symbol and Mac Roman.
-use Rattle.std.specs.Prelude.{ℕ, ◌+◌, ◌==◌, ◌&&◌, nat_lt, Bool, if◌then◌else◌, List, [], ◌∷◌, ◌++◌, Option, Some, None, find}
+use Rattle.std.specs.Prelude.{ℕ, ◌+◌, ◌==◌, if◌then◌else◌, List, ◌++◌}
 use Rattle.std.specs.List.{flat_map}
 use Rattle.layout_face.specs.declared.parts.CharacterRow.{CharacterRow}
 use Rattle.buffer_rows.specs.Keys.{row_of}

@@ -1,5 +1,5 @@
 -- The choice among the subtables of cmap (OpenType, chapter 5, cmap, encoding records; HarfBuzz, find_best_subtable).
-use Rattle.std.specs.Prelude.{ℕ, ◌+◌, ◌*◌, ◌==◌, ◌&&◌, not, Bool, if◌then◌else◌, List, Option, Some, None, find, Result, Ok}
+use Rattle.std.specs.Prelude.{ℕ, ◌+◌, ◌*◌, ◌==◌, ◌&&◌, not, Bool, List, Option, Some, None, find, Result, Ok}
 use Rattle.std.specs.Option.{option_or}
 use Rattle.font_bytes.specs.declared.fault.TableFault.{TableFault}
 use Rattle.font_bytes.specs.Results.{and_then}

@@ -1,12 +1,11 @@
 -- The ranges of characters that a subtable maps, and the glyph of each character of a range (OpenType, chapter 5, cmap).
-use Rattle.std.specs.Prelude.{◌≡◌, ℕ, ◌+◌, ◌-◌, ◌*◌, ◌/◌, ◌%◌, ◌==◌, ◌≤◌, ◌<◌, nat_le, nat_lt, if◌then◌else◌, List, Option, Some, None}
+use Rattle.std.specs.Prelude.{ℕ, ◌+◌, ◌-◌, ◌*◌, ◌/◌, ◌%◌, ◌==◌, ◌≤◌, nat_le, nat_lt, if◌then◌else◌, List, Option, Some, None}
 use Rattle.font_bytes.specs.Words.{fits, byte, word, word_at, long}
 use Rattle.font_cmap.specs.declared.ranges.GlyphRule.{GlyphRule}
 use Rattle.font_cmap.specs.declared.ranges.GlyphRule.TheVariants.{Bytes, HighBytes, Delta, Listed, Sequence, Same}
 use Rattle.font_cmap.specs.declared.ranges.CharacterRange.{CharacterRange}
 use Rattle.font_cmap.specs.declared.ranges.RangeForm.{RangeForm}
 use Rattle.font_cmap.specs.declared.ranges.RangeForm.TheVariants.{ByteArray, HighByteTable, Segments, Trimmed, LongTrimmed, Groups, SameGroups}
-use Rattle.font_cmap.specs.declared.ranges.RangeArray.{RangeArray}
 
 -- ---- glyphs
 

@@ -1,4 +1,4 @@
-use Rattle.std.proofs.Common.{◌+◌, ◌-◌, ◌++◌, ◌≡◌, [], arith, sym, ◌∙◌}
+use Rattle.std.proofs.Common.{◌++◌, arith}
 use Rattle.std.proofs.lemmas.Grind.{common_steps}
 use Rattle.font_cmap.specs.Rows.{rows_in}
 use Rattle.font_cmap.specs.Encoded.{row_glyph, symbol_glyph}

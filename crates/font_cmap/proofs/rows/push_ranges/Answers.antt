@@ -1,6 +1,5 @@
-use Rattle.std.proofs.Common.{◌+◌, ◌-◌, ◌*◌, arith, [], ◌++◌, ◌≡◌}
+use Rattle.std.proofs.Common.{arith}
 use Rattle.std.proofs.lemmas.Grind.{common_steps}
-use Rattle.font_bytes.specs.Records.{records}
 use Rattle.font_bytes.proofs.Recorded.{records_more, records_end}
 use Rattle.font_cmap.specs.Ranges.{range_at, form_width}
 use Rattle.font_cmap.specs.Rows.{ranges_of}

@@ -1,7 +1,6 @@
-use Rattle.std.proofs.Common.{◌+◌, ◌-◌, ◌≡◌, [], arith}
+use Rattle.std.proofs.Common.{◌+◌, arith}
 use Rattle.std.proofs.lemmas.Grind.{common_steps}
 use Rattle.font_cmap.specs.Ranges.{glyph_in}
-use Rattle.font_cmap.specs.Rows.{rows_in}
 use Rattle.font_cmap.proofs.Steps.{rows_end}
 use Rattle.font_cmap.proofs.rows.push_rows.Goals as goal
 

@@ -1,8 +1,7 @@
-use Rattle.std.proofs.Common.{◌+◌, ◌-◌, ◌*◌, ◌++◌, ◌≡◌, [], ◌∷◌, arith, ℕ}
+use Rattle.std.proofs.Common.{◌+◌, ◌-◌, ◌*◌, ◌++◌, arith}
 use Rattle.std.proofs.lemmas.Grind.{common_steps}
 use Rattle.font_bytes.specs.Records.{records}
 use Rattle.font_bytes.proofs.Recorded.{records_more, records_end}
-use Rattle.font_cmap.specs.Encoded.{row_glyph}
 use Rattle.std.specs.List.{flat_map}
 use Rattle.font_cmap.specs.Variations.{mapping_row, itself}
 use Rattle.font_cmap.proofs.Varied.{flat_pushed}

@@ -1,7 +1,5 @@
-use Rattle.std.proofs.Common.{◌+◌, ◌-◌, ◌*◌, ◌++◌, ◌≡◌, [], ◌∷◌, arith, ℕ}
+use Rattle.std.proofs.Common.{◌+◌, ◌++◌, arith}
 use Rattle.std.proofs.lemmas.Grind.{common_steps}
-use Rattle.font_bytes.specs.Records.{records}
-use Rattle.font_bytes.proofs.Recorded.{records_more, records_end}
 use Rattle.font_cmap.specs.Encoded.{row_glyph}
 use Rattle.font_cmap.specs.Variations.{variants_in}
 use Rattle.font_cmap.proofs.Varied.{variant_pushed, variants_end}

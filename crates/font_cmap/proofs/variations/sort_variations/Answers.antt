@@ -1,4 +1,4 @@
-use Rattle.std.proofs.Common.{ℕ, ◌*◌, ◌+◌, ◌/◌, ◌%◌, rules, refl, arith}
+use Rattle.std.proofs.Common.{ℕ, ◌/◌, ◌%◌, rules, arith}
 use Rattle.std.proofs.lemmas.List.Sorted.{IsNonDecreasingBy-from_sort_by_key, answers_always}
 use Rattle.buffer_rows.proofs.StableSort.{stable_sort_is}
 use Rattle.layout_face.specs.declared.parts.VariationRow.{VariationRow}
