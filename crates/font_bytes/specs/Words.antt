@@ -4,11 +4,11 @@ use Rattle.std.specs.Int.{w16, cast_signed}
 use Rattle.font_bytes.specs.declared.fault.TableFault.{TableFault}
 use Rattle.font_bytes.specs.declared.fault.TableFault.TheVariants.{Short}
 
--- whether the bytes have so many bytes from an offset on
+-- whether the bytes have n bytes from an offset on
 abbrev pub fits : List ℕ → ℕ → ℕ → Bool
 fits bytes at count = nat_le (at + count) (length bytes)
 
--- a refusal where the bytes end before so many bytes from an offset on
+-- a refusal where the bytes end before n bytes from an offset on
 abbrev pub need : List ℕ → ℕ → ℕ → Result ⊤ TableFault
 need bytes at count = if fits bytes at count then Ok tt else Err (Short at)
 

@@ -5,7 +5,7 @@ use std::alloc::{AllocError, AllocFailed};
 /// Why a table of a font file, or the list of its tables, isn't read. Offsets are those of the table's bytes.
 #[derive(Clone, Copy, PartialEq, Eq, Debug)]
 pub enum TableFault {
-    /// What begins at this offset goes past the end of the bytes.
+    /// What begins at this offset ends past the end of the bytes.
     Short(usize),
     /// A version or a format at this offset is none of the known ones.
     Kind(usize),

@@ -49,7 +49,7 @@ impl FontFault {
     }
 
     /// The offset in the table's bytes, or in the file's where no table is at fault, of what is wrong; none where the cause
-    /// has no place.
+    /// has no offset.
     pub fn offset(self) -> Option<usize>
         ensures { result ≡ offset_of self.cause }
     {

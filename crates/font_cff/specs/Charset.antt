@@ -34,11 +34,11 @@ left_width is_wide = if is_wide then 2 else 1
 abbrev pub left_of : List ℕ → Bool → ℕ → ℕ
 left_of table is_wide at = if is_wide then word table at else byte table at
 
--- how many glyphs the range at an offset names, of so many
+-- how many glyphs the range at an offset names, of n of them
 abbrev pub range_length : List ℕ → Bool → ℕ → ℕ → ℕ
 range_length table is_wide at left = min (left_of table is_wide (at + 2) + 1) left
 
--- at most so many ranges from an offset on, for so many glyphs: first, nLeft
+-- at most n ranges from an offset on, for n glyphs: first, nLeft
 unfoldable pub range_sids : List ℕ → Bool → ℕ → ℕ → ℕ → Result (List ℕ) TableFault
 range_sids table is_wide zero at left = Ok []
 range_sids table is_wide (suc n) at left = if left == 0 then Ok []

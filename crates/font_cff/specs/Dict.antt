@@ -74,7 +74,7 @@ dict_step table s = and_then (need table s.at 1) (λ _.
     else (if nat_le (byte table s.at) 24 then Ok (after_operator s (byte table s.at) 1)
     else Err (Kind s.at))))))
 
--- so many steps, or as many as there are bytes
+-- n steps, or as many as there are bytes
 unfoldable pub dict_runs : List ℕ → ℕ → ℕ → DictState → Result Dict TableFault
 dict_runs table end zero s = Ok s.dict
 dict_runs table end (suc n) s = if nat_le end s.at then Ok s.dict else and_then (dict_step table s) (dict_runs table end n)

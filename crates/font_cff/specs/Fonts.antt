@@ -13,7 +13,7 @@ use Rattle.font_cff.specs.declared.header.Cff.{Cff}
 use Rattle.font_cff.specs.declared.fonts.Private.{Private}
 use Rattle.font_cff.specs.Dict.{dict_of}
 
--- so many numbers from one on
+-- n numbers from one on
 abbrev pub numbers : ℕ → ℕ → List ℕ
 numbers first zero = []
 numbers first (suc count) = first ∷ numbers (first + 1) count

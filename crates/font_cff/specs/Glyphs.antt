@@ -21,6 +21,7 @@ pub record CffValue : Type 0 where
   pub boxes : List GlyphBox
   pub names : List GlyphName
 
+-- what a table has, by its parts
 abbrev pub value : ℕ → List GlyphBox → List GlyphName → CffValue
 value count boxes names = record { count = count; boxes = boxes; names = names }
 
@@ -40,7 +41,7 @@ outlines_of table is_cff2 room = and_then (cff_of table is_cff2) (λ cff.
     and_then (font_sids table cff) (λ sids.
     Ok ((cff, ps.0, selects, sids), ps.1)))))
 
--- the boxes of so many glyphs
+-- the boxes of n glyphs
 unfoldable pub boxes_of : List ℕ → Cff → List Private → List ℕ → List ℕ → ℕ → ℕ → Result (List GlyphBox × ℕ) TableFault
 boxes_of table cff privates selects sids room count = tables_in (glyph_box table cff privates selects sids) room (numbers 0 count)
 

@@ -29,7 +29,7 @@ abbrev pub are_selects : ℕ → List SelectRange → Bool
 are_selects first [] = true
 are_selects first (r ∷ rs) = is_select first r && are_selects r.next rs
 
--- so many copies of a number
+-- n copies of a number
 abbrev pub copies : ℕ → ℕ → List ℕ
 copies x zero = []
 copies x (suc n) = x ∷ copies x n
@@ -42,12 +42,12 @@ dicts_of r = copies r.dict (r.next - r.first)
 abbrev pub dicts_in : ℕ → List SelectRange → Result (List ℕ) TableFault
 dicts_in at rs = if are_selects 0 rs then Ok (flat_map dicts_of rs) else Err (Order at)
 
--- format 3: nRanges, so many ranges of three bytes, sentinel
+-- format 3: nRanges, n ranges of three bytes, sentinel
 abbrev pub selects_of_three : List ℕ → ℕ → Result (List ℕ) TableFault
 selects_of_three table at = and_then (need table at 2) (λ _. and_then (need table (at + 2) (3 * word table at + 2)) (λ _.
     dicts_in at (records (range_of_three table) 3 (at + 2) (word table at))))
 
--- format 4: nRanges, so many ranges of six bytes, sentinel
+-- format 4: nRanges, n ranges of six bytes, sentinel
 abbrev pub selects_of_six : List ℕ → ℕ → Result (List ℕ) TableFault
 selects_of_six table at = and_then (need table at 4) (λ _. and_then (need table (at + 4) (6 * long table at + 4)) (λ _.
     dicts_in at (records (range_of_six table) 6 (at + 4) (long table at))))

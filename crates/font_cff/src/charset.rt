@@ -9,7 +9,7 @@ use font_bytes::words::{byte, need, word};
 use font_strings::{expert_sid, subset_sid};
 use std::alloc::Global;
 
-/// Appends so many string numbers from one on.
+/// Appends n string numbers from one on.
 #[tactic(auto, using(crate::proofs::Lists::sid_pushed))]
 fn push_sids(sids: &mut Vec<u32>, first: u16, count: usize) -> Result<(), TableFault>
     requires { count ≤ 65536 }

@@ -24,7 +24,7 @@ pub struct Dict {
     pub is_cid: bool,
 }
 
-/// A DICT that is read: its values so far, the next byte, the last two operands, and whether a real number goes on.
+/// A DICT that is read: its values so far, the next byte, the last two operands, and whether a real number continues.
 #[derive(Clone, Copy, PartialEq, Eq, Debug)]
 pub struct DictState {
     pub dict: Dict,

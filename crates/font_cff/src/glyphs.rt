@@ -94,7 +94,7 @@ fn read_outlines(
     })
 }
 
-/// The boxes of so many glyphs.
+/// The boxes of n glyphs.
 #[tactic(auto, using(crate::proofs::Lists::numbers_next, crate::proofs::Lists::numbers_end), unfolding(crate::specs::Glyphs::boxes_of))]
 fn read_boxes(
     alloc: Global,

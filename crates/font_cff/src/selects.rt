@@ -61,7 +61,7 @@ fn is_select(range: SelectRange, first: u32) -> bool
     range.first == first && range.first < range.next && range.next <= 65536
 }
 
-/// Appends so many copies of the index of a font DICT.
+/// Appends n copies of the index of a font DICT.
 #[tactic(auto, using(crate::proofs::Lists::copy_pushed))]
 fn push_copies(selects: &mut Vec<u16>, dict: u16, count: u32) -> Result<(), TableFault>
     ensures ok { OnOk result (selects.new.items ≡ selects.old.items ++ copies dict count) }

@@ -1,4 +1,4 @@
-//! Tables whose boxes and names fontTools tells, the example of TN 5176 (appendix D), and tables that are refused.
+//! Tables whose boxes and names are fontTools', the example of TN 5176 (appendix D), and tables that are refused.
 use crate::charset::read_charset;
 use crate::glyphs::{CffGlyphs, CffParts, read_cff};
 use crate::outlines::GlyphBox;
@@ -226,7 +226,7 @@ fn font_dicts_are_chosen(rt: HostRuntime) {
 }
 
 #[test]
-fn faults_are_told(rt: HostRuntime) {
+fn refusals_have_their_causes(rt: HostRuntime) {
     let alloc = rt.alloc();
     let mut table = EXAMPLE;
     assert!(rt; is_refused(alloc, &table[..3], 10_000, TableFault::Short(0)));
@@ -242,7 +242,7 @@ fn faults_are_told(rt: HostRuntime) {
     assert!(rt; is_refused(alloc, &deep, 10_000, TableFault::TooLarge));
 }
 
-/// Whether the charset of so many glyphs has these string numbers.
+/// Whether the charset of n glyphs has these string numbers.
 fn has_sids(rt: &impl Abort, alloc: Global, table: &[u8], at: usize, count: usize, sids: &[u32]) {
     match read_charset(alloc, table, at, count.min(65_535)) {
         Ok(found) => assert_eq!(rt; found.as_slice(), sids),
@@ -264,7 +264,7 @@ fn charsets_are_read(rt: HostRuntime) {
     has_sids(&rt, alloc, &table, 15, 5, &[0, 7, 8, 9, 256]);
 }
 
-/// Whether the FDSelect of so many glyphs has these indices.
+/// Whether the FDSelect of n glyphs has these indices.
 fn has_selects(
     rt: &impl Abort,
     alloc: Global,

@@ -12,12 +12,13 @@ use Rattle.font_charstrings.specs.Numbers.{is_number, subr_index}
 use Rattle.font_charstrings.specs.Index.{object}
 use Rattle.font_charstrings.specs.Operators.{popped, number_pushed, path_drawn, stems_hinted, mask_passed, blended, regions_chosen, escaped}
 
--- a charstring that is run, its operands, the topmost one last, and where its callers go on, the innermost one last
+-- a charstring that is run, its operands, the topmost one last, and where its callers continue, the innermost one last
 pub record State : Type 0 where
   pub run : Run
   pub stack : List ℕ
   pub calls : List Span
 
+-- a charstring that is run, by its parts
 abbrev pub state : Run → List ℕ → List Span → State
 state r stack calls = record { run = r; stack = stack; calls = calls }
 
@@ -29,7 +30,7 @@ with_calls calls x = and_then x (λ r. Ok (state r.0 r.1 calls))
 unfoldable pub done : Run → Run
 done r = record { pen = r.pen; at = r.at; end = r.end; stems = r.stems; regions = r.regions; is_done = true }
 
--- a charstring that goes on with other bytes
+-- a charstring that continues with other bytes
 unfoldable pub resumed : Run → Span → Run
 resumed r span = record { pen = r.pen; at = span.at; end = span.end; stems = r.stems; regions = r.regions; is_done = r.is_done }
 
@@ -73,7 +74,7 @@ step table context s = if nat_le s.run.end s.run.at then Ok (left s)
     if is_number (byte table s.run.at) then with_calls s.calls (number_pushed table s.run (byte table s.run.at) s.stack)
     else operated table context (byte table s.run.at) s)
 
--- all steps to the end, in the room for so many, and the room that they leave
+-- all steps to the end, in the room for n of them, and the room that they leave
 unfoldable pub runs : List ℕ → Context → ℕ → State → Result (State × ℕ) TableFault
 runs table context zero s = if s.run.is_done then Ok (s, 0) else Err TooLarge
 runs table context (suc room) s = if s.run.is_done then Ok (s, suc room) else and_then (step table context s) (runs table context room)

@@ -18,10 +18,10 @@ number table at code =
     else (if code == 28 then and_then (need table at 3) (λ _. Ok (word table (at + 1) * 65536, 3))
     else and_then (need table at 5) (λ _. Ok (long table (at + 1), 5)))))
 
--- what is added to the number of a subroutine, of so many (TN 5176, 16)
+-- what is added to the number of a subroutine, of n of them (TN 5176, 16)
 abbrev pub subr_bias : ℕ → ℕ
 subr_bias count = if nat_lt count 1240 then 107 else (if nat_lt count 33900 then 1131 else 32768)
 
--- the index of the subroutine that an operand names, of so many
+-- the index of the subroutine that an operand names, of n of them
 unfoldable pub subr_index : ℕ → ℕ → ℕ
 subr_index operand count = (operand / 65536 + subr_bias count) % 65536

@@ -87,7 +87,7 @@ blended r stack = and_then (popped r.at stack) (λ n.
     if nat_lt (length n.1) (n.0 / 65536 + n.0 / 65536 * r.regions) then Err (Kind r.at)
     else Ok (advanced r 1, take (length n.1 - n.0 / 65536 * r.regions) n.1))
 
--- the regionIndexCount of the ItemVariationData with an index; the ItemVariationStore is behind a length of two bytes
+-- the regionIndexCount of the ItemVariationData with an index; the ItemVariationStore follows a length of two bytes
 unfoldable pub regions_at : List ℕ → ℕ → ℕ → Result ℕ TableFault
 regions_at table store index = and_then (need table (store + 2) 8) (λ _.
     if nat_le (word table (store + 2 + 6)) index then Err (Kind (store + 2))

@@ -10,7 +10,7 @@ use Rattle.font_charstrings.specs.Pen.{line_to, move_to, curve_to, level_to, upr
 unfoldable pub turned : Bool → ℕ → Bool
 turned is_horizontal index = if index % 2 == 0 then is_horizontal else not is_horizontal
 
--- {dxa dya}+ rlineto: so many lines
+-- {dxa dya}+ rlineto: n lines
 unfoldable pub lines : List ℕ → Pen → ℕ → Pen
 lines args pen zero = pen
 lines args pen (suc n) = line_to (lines args pen n) (slice_index args (2 * n)) (slice_index args (2 * n + 1))
@@ -19,26 +19,26 @@ lines args pen (suc n) = line_to (lines args pen n) (slice_index args (2 * n)) (
 unfoldable pub side : Pen → Bool → ℕ → Pen
 side pen is_horizontal d = if is_horizontal then line_to pen d 0 else line_to pen 0 d
 
--- dx1 {dya dxb}* hlineto, dy1 {dxa dyb}* vlineto: so many lines, horizontal and vertical in turn
+-- dx1 {dya dxb}* hlineto, dy1 {dxa dyb}* vlineto: n lines, horizontal and vertical in turn
 unfoldable pub sides : List ℕ → Bool → Pen → ℕ → Pen
 sides args is_horizontal pen zero = pen
 sides args is_horizontal pen (suc n) = side (sides args is_horizontal pen n) (turned is_horizontal n) (slice_index args n)
 
--- a curve that begins and ends horizontally or vertically, but for what its first move goes across
+-- a curve that begins and ends horizontally or vertically, but for the distance of its first move across
 unfoldable pub flat_curve : Pen → Bool → ℕ → ℕ → ℕ → ℕ → ℕ → Pen
 flat_curve pen is_horizontal across a b c d = if is_horizontal then curve_to pen a across b c d 0 else curve_to pen across a b c 0 d
 
--- what the first move of a curve goes across: the first of an odd number of operands
+-- the distance of the first move of a curve across: the first of an odd number of operands
 unfoldable pub cross : List ℕ → ℕ → ℕ
 cross args index = if index == 0 && length args % 2 == 1 then slice_index args 0 else 0
 
--- dy1? {dxa dxb dyb dxc}+ hhcurveto, dx1? {dya dxb dyb dyc}+ vvcurveto: so many curves
+-- dy1? {dxa dxb dyb dxc}+ hhcurveto, dx1? {dya dxb dyb dyc}+ vvcurveto: n curves
 unfoldable pub flat_curves : List ℕ → Bool → Pen → ℕ → Pen
 flat_curves args is_horizontal pen zero = pen
 flat_curves args is_horizontal pen (suc n) = flat_curve (flat_curves args is_horizontal pen n) is_horizontal (cross args n)
     (slice_index args (length args % 2 + 4 * n)) (slice_index args (length args % 2 + 4 * n + 1)) (slice_index args (length args % 2 + 4 * n + 2)) (slice_index args (length args % 2 + 4 * n + 3))
 
--- a curve from one direction to the other; the last operand is what its last move goes across
+-- a curve from one direction to the other; the last operand is the distance of its last move across
 unfoldable pub corner_curve : Pen → Bool → ℕ → ℕ → ℕ → ℕ → ℕ → Pen
 corner_curve pen is_horizontal a b c d across = if is_horizontal then curve_to pen a 0 b c across d else curve_to pen 0 a b c d across
 
@@ -46,7 +46,7 @@ corner_curve pen is_horizontal a b c d across = if is_horizontal then curve_to p
 unfoldable pub spare : List ℕ → ℕ → ℕ
 spare args at = if length args == at + 1 then slice_index args at else 0
 
--- hvcurveto, vhcurveto: so many curves of four operands that turn each time; the last one may have a fifth
+-- hvcurveto, vhcurveto: n curves of four operands that turn each time; the last one may have a fifth
 unfoldable pub corner_curves : List ℕ → Bool → Pen → ℕ → Pen
 corner_curves args is_horizontal pen zero = pen
 corner_curves args is_horizontal pen (suc n) = corner_curve (corner_curves args is_horizontal pen n) (turned is_horizontal n)
@@ -64,7 +64,7 @@ hflex1 args pen = level_to (line_to (line_to
     (curve_to pen (slice_index args 0) (slice_index args 1) (slice_index args 2) (slice_index args 3) (slice_index args 4) 0)
     (slice_index args 5) 0) (slice_index args 6) (slice_index args 7)) (slice_index args 8) pen.y
 
--- dx1 dy1 dx2 dy2 dx3 dy3 dx4 dy4 dx5 dy5 d6 flex1: the last point goes on in the direction of the longer way, and is level
+-- dx1 dy1 dx2 dy2 dx3 dy3 dx4 dy4 dx5 dy5 d6 flex1: the last point lies on in the direction of the longer way, and is level
 -- with the first one in the other
 unfoldable pub flex1 : List ℕ → Pen → Pen
 flex1 args pen = if nat_lt (abs_diff (lines args pen 5).y pen.y) (abs_diff (lines args pen 5).x pen.x)

@@ -5,7 +5,7 @@ ghost use Rattle.font_charstrings.specs.Paths.{turned, side, sides, lines, flat_
 use crate::pen::{Pen, curve_to, level_to, line_to, move_to, upright_to};
 use font_bytes::fault::TableFault;
 
-/// Lines to so many points of two operands each.
+/// Lines to n points of two operands each.
 #[tactic(auto, using(crate::proofs::Steps::lines_next, crate::proofs::Steps::lines_none))]
 fn lines(pen: Pen, args: &[u32], count: usize) -> Pen
     requires { 2 * count ≤ length args.now }
@@ -52,7 +52,7 @@ fn sides(pen: Pen, args: &[u32], is_horizontal: bool) -> Pen
     drawn
 }
 
-/// A curve that begins and ends horizontally or vertically, but for what its first move goes across.
+/// A curve that begins and ends horizontally or vertically, but for the distance of its first move across.
 #[tactic(auto, unfolding(crate::specs::Paths::flat_curve))]
 fn flat_curve(pen: Pen, is_horizontal: bool, across: u32, a: u32, b: u32, c: u32, d: u32) -> Pen
     ensures { result ≡ flat_curve pen is_horizontal across a b c d }
@@ -63,7 +63,7 @@ fn flat_curve(pen: Pen, is_horizontal: bool, across: u32, a: u32, b: u32, c: u32
     curve_to(pen, across, a, b, c, 0, d)
 }
 
-/// What the first move of a curve goes across: the first of an odd number of operands.
+/// The distance of the first move of a curve across: the first of an odd number of operands.
 #[tactic(auto, unfolding(crate::specs::Paths::cross))]
 fn cross(args: &[u32], index: usize) -> u32
     ensures { result ≡ cross args.now index }
@@ -97,7 +97,7 @@ fn flat_curves(pen: Pen, args: &[u32], is_horizontal: bool) -> Pen
     drawn
 }
 
-/// A curve from one direction to the other; the last operand is what its last move goes across.
+/// A curve from one direction to the other; the last operand is the distance of its last move across.
 #[tactic(auto, unfolding(crate::specs::Paths::corner_curve))]
 fn corner_curve(pen: Pen, is_horizontal: bool, a: u32, b: u32, c: u32, d: u32, across: u32) -> Pen
     ensures { result ≡ corner_curve pen is_horizontal a b c d across }

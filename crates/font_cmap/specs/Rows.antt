@@ -29,7 +29,7 @@ glyph_of_row (Some r) = r.glyph
 unfoldable pub character_row : ℕ → ℕ → List CharacterRow
 character_row c g = if g == 0 then [] else (if is_character c then record { character = c; glyph = g } ∷ [] else [])
 
--- the rows of so many numbers from one on
+-- the rows of n numbers from one on
 unfoldable pub rows_in : (ℕ → ℕ) → ℕ → ℕ → List CharacterRow
 rows_in glyph c zero = []
 rows_in glyph c (suc count) = character_row c (glyph c) ++ rows_in glyph (c + 1) count

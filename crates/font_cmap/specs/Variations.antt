@@ -22,7 +22,7 @@ use Rattle.font_cmap.specs.Encoded.{row_glyph}
 unfoldable pub variation_row : ℕ → ℕ → ℕ → List VariationRow
 variation_row s c g = if g == 0 then [] else (if is_character c then (if is_character s then record { character = c; selector = s; glyph = g } ∷ [] else []) else [])
 
--- the rows of a selector and so many characters from one on, by their usual glyphs
+-- the rows of a selector and n characters from one on, by their usual glyphs
 unfoldable pub variants_in : (ℕ → ℕ) → ℕ → ℕ → ℕ → List VariationRow
 variants_in glyph s c zero = []
 variants_in glyph s c (suc count) = variation_row s c (glyph c) ++ variants_in glyph s (c + 1) count

@@ -170,7 +170,7 @@ fn segment_rule(table: &[u8], delta: u16, at: usize) -> GlyphRule
     }
 }
 
-/// Format 4: the segment, of so many, whose end code is at an offset.
+/// Format 4: the segment, of n of them, whose end code is at an offset.
 #[tactic(auto, unfolding(crate::specs::Ranges::range_at))]
 fn segment_at(table: &[u8], count: usize, at: usize) -> CharacterRange
     requires { at + 4 + 6 * count ≤ length table.now }

@@ -24,11 +24,11 @@ abbrev pub listed_rows : ℕ → List ℕ → List (GlyphRow ℕ)
 listed_rows glyph [] = []
 listed_rows glyph (class ∷ classes) = class_row glyph class ++ listed_rows (glyph + 1) classes
 
--- how many of so many glyphs from one on are glyphs: those up to 65,535
+-- how many of n glyphs from one on are glyphs: those up to 65,535
 abbrev pub glyph_count : ℕ → ℕ → ℕ
 glyph_count first count = min count (65536 - first)
 
--- classValueArray: the classes of so many glyphs
+-- classValueArray: the classes of n glyphs
 abbrev pub class_array : List ℕ → ℕ → ℕ → List ℕ
 class_array table at count = records (word table) 2 at count
 
@@ -44,7 +44,7 @@ listed_classes room table at = and_then (need table at 6) (λ _. and_then (need 
 abbrev pub class_range_record : List ℕ → ℕ → ClassRangeRecord
 class_range_record table at = record { first = word table at; last = word table (at + 2); class = word table (at + 4) }
 
--- the rows of so many glyphs from one on, of one class
+-- the rows of n glyphs from one on, of one class
 abbrev pub class_run : ℕ → ℕ → ℕ → List (GlyphRow ℕ)
 class_run class first zero = []
 class_run class first (suc count) = record { glyph = first; value = class } ∷ class_run class (first + 1) count

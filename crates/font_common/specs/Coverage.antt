@@ -33,7 +33,7 @@ listed_glyphs table at = and_then (need table (at + 4) (2 * word table (at + 2))
 abbrev pub range_record : List ℕ → ℕ → RangeRecord
 range_record table at = record { first = word table at; last = word table (at + 2); start_index = word table (at + 4) }
 
--- so many glyphs from one on
+-- n glyphs from one on
 abbrev pub glyph_run : ℕ → ℕ → List ℕ
 glyph_run first zero = []
 glyph_run first (suc count) = first ∷ glyph_run (first + 1) count
@@ -78,7 +78,7 @@ glyphs_at table at = and_then (need table at 4) (λ _. glyphs_of_format table at
 abbrev pub glyphs_at_offset : List ℕ → ℕ → ℕ → Result (List ℕ) TableFault
 glyphs_at_offset table base offset = if offset == 0 then Ok [] else glyphs_at table (base + offset)
 
--- these glyphs, and the room that they leave
+-- the glyphs of the coverage table at an offset from a base, and the room that they leave
 abbrev pub covered_at : ℕ → List ℕ → ℕ → ℕ → Result (List ℕ × ℕ) TableFault
 covered_at room table base offset = and_then (glyphs_at_offset table base offset) (λ gs. and_then (taken room (length gs)) (λ left. Ok (gs, left)))
 

@@ -24,7 +24,7 @@ tables_in read room (o ∷ os) = and_then (read room o) (λ a. after (a.0 ∷ []
 abbrev pub offset_array : List ℕ → ℕ → ℕ → List ℕ
 offset_array bytes at count = records (word bytes) 2 at count
 
--- the values of the tables of an array of so many offsets from a base; each offset takes a row of room
+-- the values of the tables of an array of n offsets from a base; each offset takes a row of room
 abbrev pub tables_at : {A : Type 0} → A → (ℕ → List ℕ → ℕ → Result (A × ℕ) TableFault) → List ℕ → ℕ → ℕ → ℕ → ℕ → Result (List A × ℕ) TableFault
 tables_at null read bytes base at count room =
     and_then (taken room count) (λ left. tables_in (λ r o. value_at_offset null read r bytes base o) left (offset_array bytes at count))

@@ -47,7 +47,7 @@ fn push_class(rows: &mut Vec<GlyphRow<u16>>, glyph: u16, class: u16) -> Result<(
     Ok(())
 }
 
-/// How many of so many glyphs from one on are glyphs.
+/// How many of n glyphs from one on are glyphs.
 fn glyph_count(first: u16, count: u16) -> usize
     ensures { result ≡ glyph_count first count }
 {

@@ -66,7 +66,7 @@ fn push_run(glyphs: &mut Vec<u16>, first: u16, last: u16) -> Result<(), TableFau
     Ok(())
 }
 
-/// The numbers from 0 on, so many.
+/// The numbers from 0 on below a number.
 pub fn numbers_below(alloc: Global, count: usize) -> Result<Vec<u16>, TableFault>
     requires { count ≤ 65536 }
     ensures ok { IfOk result (λ v. v.items ≡ glyph_run 0 count) }

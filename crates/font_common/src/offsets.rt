@@ -61,7 +61,7 @@ pub fn read_at_offset<T: TableReader>(
     reader.read(alloc, bytes, base + offset as usize, room)
 }
 
-/// Reads the tables of an array of so many offsets, which count from a base. An offset takes a row of room.
+/// Reads the tables of an array of n offsets, which count from a base. An offset takes a row of room.
 #[tactic(auto, using(font_bytes::proofs::Recorded::records_more, font_bytes::proofs::Recorded::records_end))]
 pub fn read_tables<T: TableReader>(
     reader: &T,

@@ -7,8 +7,8 @@ use buffer_rows::{Keyed, SortedRows, is_above, is_rising};
 use font_bytes::fault::TableFault;
 use std::alloc::Global;
 
-/// Appends a row whose key is above the one before it, and lets another one go: of rows of one key the first stays. The
-/// last key is told.
+/// Appends a row whose key is above the one before it, and drops another one: of rows of one key the first stays. The
+/// last key is known.
 pub fn push_above<R: Keyed + Drop>(
     rows: &mut Vec<R>,
     before: Option<R::Key>,

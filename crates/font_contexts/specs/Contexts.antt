@@ -123,6 +123,6 @@ context_of_format chained lookup_count room table at format =
     else (if format == 3 then read_subtable Coverage (coverage_context_at chained lookup_count room table at)
     else Ok (None, room)))
 
--- the context or chained context at an offset, in a table of so many lookups
+-- the context or chained context at an offset, in a table of n lookups
 abbrev pub context_at : Bool → ℕ → ℕ → List ℕ → ℕ → Result (Option ContextSubtable × ℕ) TableFault
 context_at chained lookup_count room table at = and_then (need table at 2) (λ _. context_of_format chained lookup_count room table at (word table at))

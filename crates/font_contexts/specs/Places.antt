@@ -14,7 +14,7 @@ no_array = record { at = 0; count = 0 }
 abbrev pub end_of : ℕ → ArrayPlace → ℕ
 end_of width a = a.at + width * a.count
 
--- an array of so many elements of a width at an offset, within the table
+-- an array of n elements of a width at an offset, within the table
 abbrev pub array_at : ℕ → List ℕ → ℕ → ℕ → Result ArrayPlace TableFault
 array_at width table at count = and_then (need table at (width * count)) (λ _. Ok (record { at = at; count = count }))
 

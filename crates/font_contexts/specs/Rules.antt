@@ -18,7 +18,7 @@ use Rattle.font_contexts.specs.Places.{element_count, places_at}
 abbrev pub lookup_record : List ℕ → ℕ → SequenceLookupRecord
 lookup_record table at = record { sequence_index = word table at; lookup_index = word table (at + 2) }
 
--- the records whose lookup exists, in a table of so many lookups
+-- the records whose lookup exists, in a table of n lookups
 abbrev pub known_records : ℕ → List SequenceLookupRecord → List SequenceLookupRecord
 known_records lookup_count rs = filter (λ r. nat_lt r.lookup_index lookup_count) rs
 

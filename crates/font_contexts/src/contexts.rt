@@ -14,7 +14,7 @@ use layout_tables::context::ContextSubtable;
 use layout_tables::rules::SequenceRules;
 use std::alloc::Global;
 
-/// Reads a context or a chained context, in a table of so many lookups; none of an unknown format. Lookup records whose
+/// Reads a context or a chained context, in a table of n lookups; none of an unknown format. Lookup records whose
 /// lookup doesn't exist are left out.
 pub fn read_context(
     alloc: Global,

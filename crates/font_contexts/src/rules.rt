@@ -39,7 +39,7 @@ fn push_known(
     Ok(())
 }
 
-/// Reads the lookup records of an array whose lookups exist, in a table of so many lookups.
+/// Reads the lookup records of an array whose lookups exist, in a table of n lookups.
 pub fn read_records(
     alloc: Global,
     table: &[u8],
@@ -111,7 +111,7 @@ fn read_rule_of(
     })
 }
 
-/// Rules by glyphs or by classes, of a table of so many lookups, whose inputs begin with an item that their tables leave
+/// Rules by glyphs or by classes, of a table of n lookups, whose inputs begin with an item that their tables leave
 /// out.
 #[derive(Clone, Copy)]
 pub struct RuleReader {

@@ -18,7 +18,7 @@ use layout_common::glyph_row::GlyphRow;
 use layout_tables::context::SequenceRule;
 use std::alloc::Global;
 
-/// Appends the rules of an array of so many offsets, which count from a base. An offset takes a row of room.
+/// Appends the rules of an array of n offsets, which count from a base. An offset takes a row of room.
 fn push_rules(
     rules: &mut Vec<SequenceRule<u16>>,
     alloc: Global,

@@ -82,7 +82,12 @@ fn rules_by_coverages_are_read(rt: HostRuntime) -> Result<(), Fail> {
 #[test]
 fn other_formats_are_left_out(rt: HostRuntime) -> Result<(), Fail> {
     let mut room = Room { left: 100 };
-    assert!(rt; matches!(read_context(rt.alloc(), true, 1, &[0, 4], 0, &mut room), Ok(None)));
+    assert!(rt;
+        matches!(
+            read_context(rt.alloc(), true, 1, &[0, 4], 0, &mut room),
+            Ok(None)
+        )
+    );
     match read_context(rt.alloc(), true, 1, &[0], 0, &mut room) {
         Err(fault) => assert!(rt; fault == TableFault::Short(0)),
         Ok(_context) => return Err("read".into()),

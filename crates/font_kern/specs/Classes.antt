@@ -35,7 +35,7 @@ unfoldable pub listed_values : List ℕ → ℕ → ℕ → ℕ → List (GlyphR
 listed_values table at glyph zero = []
 listed_values table at glyph (suc count) = record { glyph = glyph; value = word table at } ∷ listed_values table (at + 2) (glyph + 1) count
 
--- how many of so many glyphs from one on there are
+-- how many of n glyphs from one on there are
 abbrev pub glyphs_from : ℕ → ℕ → ℕ
 glyphs_from first count = min count (65536 - first)
 

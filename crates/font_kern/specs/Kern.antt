@@ -24,7 +24,7 @@ abbrev pub with_feature : Bool → List ℕ → List Subtable → KernLists × �
 with_feature is_backward table subtables l = and_then (kern_lookups is_backward table l.1 (length l.0.lookups) subtables)
     (λ r. Ok (record { features = l.0.features ++ kern_feature (length l.0.lookups) (length subtables) ∷ []; lookups = l.0.lookups ++ r.0 }, r.1))
 
--- the same where a script of the direction lacks the feature
+-- the lists with the feature of a direction where a script of the direction lacks it
 abbrev pub with_direction : Bool → Bool → List ℕ → List Subtable → KernLists × ℕ → Result (KernLists × ℕ) TableFault
 with_direction lacks is_backward table subtables l = if lacks then with_feature is_backward table subtables l else Ok l
 

@@ -29,8 +29,8 @@ pair_lookup pairs = record { flags = 8; mark_filtering_set = None; subtables = P
 abbrev pub call_rule : List ℕ → ℕ → SequenceRule (List ℕ)
 call_rule firsts index = record { backtrack = []; input = firsts ∷ []; lookahead = []; records = record { sequence_index = 0; lookup_index = index } ∷ [] }
 
--- a context that calls the pair lookup at each first glyph. A pair lookup that moves its second glyph goes on after that; the
--- context goes on after its input, the first glyph, so that the second one may begin the next pair
+-- a context that calls the pair lookup at each first glyph. A pair lookup that moves its second glyph continues after that; the
+-- context continues after its input, the first glyph, so that the second one may begin the next pair
 abbrev pub context_lookup : List ℕ → ℕ → PositioningLookup
 context_lookup firsts index = record { flags = 8; mark_filtering_set = None; subtables = Context (Coverage (call_rule firsts index ∷ []) ∷ []) }
 
@@ -44,6 +44,6 @@ kern_lookups is_backward table room index [] = Ok ([], room)
 kern_lookups is_backward table room index (s ∷ subtables) =
     and_then (kerning_at is_backward room table s) (λ k. after (lookups_of index k.0) (kern_lookups is_backward table k.1 (index + 2) subtables))
 
--- the feature of the contexts of so many subtables whose lookups begin at an index
+-- the feature of the contexts of n subtables whose lookups begin at an index
 abbrev pub kern_feature : ℕ → ℕ → FeatureTable
 kern_feature index count = record { tag = kern_tag; lookups = records (λ i. i) 2 (index + 1) count }

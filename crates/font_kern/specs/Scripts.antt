@@ -115,7 +115,7 @@ needs_kern t = list_any (lacks_kern t.features) t.scripts || not (is_some (first
 abbrev pub script_row : Tag → ScriptRow
 script_row tag = record { tag = tag; is_backward = is_backward_tag tag }
 
--- those of known scripts that are among some
+-- the rows of the scripts of a list that are among others
 abbrev pub rows_among : List Script → List BackwardScript → List ScriptRow
 rows_among scripts known = map (λ b. script_row b.tag) (filter (λ b. is_among scripts b.script) known)
 
@@ -132,7 +132,7 @@ abbrev pub offered_rows : List FeatureTable → List ScriptTable → List Charac
 offered_rows features scripts characters =
     map (λ s. script_row s.tag) scripts ++ script_row (usual_script scripts).tag ∷ served_rows features scripts characters
 
--- the same by rising tags, each once
+-- the scripts that may lack the feature, by rising tags, each once
 abbrev pub script_rows : List FeatureTable → List ScriptTable → List CharacterRow → List ScriptRow
 script_rows features scripts characters =
     rising_only nat_cmp (λ r. r.tag.0) None (key_order (λ r. r.tag.0) (offered_rows features scripts characters))

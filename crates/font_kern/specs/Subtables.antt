@@ -53,7 +53,7 @@ subtable_taken is_apple table at =
     then record { body = at + header_size is_apple; header = header_size is_apple; by_classes = format_at is_apple table at == 2 } ∷ []
     else []
 
--- the subtables that are taken of so many from an offset on; each takes 64 rows of room
+-- the subtables that are taken of n from an offset on; each takes 64 rows of room
 unfoldable pub subtables_from : Bool → List ℕ → ℕ → ℕ → ℕ → Result (List Subtable × ℕ) TableFault
 subtables_from is_apple table room at zero = Ok ([], room)
 subtables_from is_apple table room at (suc count) = and_then (taken room 64) (λ left. and_then (need table at (header_size is_apple))

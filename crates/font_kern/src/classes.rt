@@ -60,7 +60,7 @@ fn class_header(table: &[u8], start: usize, at: usize) -> ClassHeader
     }
 }
 
-/// How many of so many glyphs from one on there are.
+/// How many of n glyphs from one on there are.
 fn glyphs_from(first: u16, count: u16) -> usize
     ensures { result ≡ glyphs_from first count }
 {

@@ -287,7 +287,7 @@ fn kern_beside(
 /// `table` is the table's bytes (OpenType, chapter kern, version 0; Apple's version 1.0), `characters` are the font's.
 /// Each subtable takes 64 rows of room, and what it holds a row for each pair, glyph and distance.
 ///
-/// Errors: `Short` where a subtable goes past the table's end, `TooLarge` where there is no room, or there would be more
+/// Errors: `Short` where a subtable ends past the table's end, `TooLarge` where there is no room, or there would be more
 /// than 65,536 features or lookups.
 pub fn with_kerning(
     alloc: Global,

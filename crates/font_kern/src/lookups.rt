@@ -150,7 +150,7 @@ pub fn append_lookups(
     Ok(())
 }
 
-/// The feature of the contexts of so many subtables whose lookups begin at an index.
+/// The feature of the contexts of n subtables whose lookups begin at an index.
 #[tactic(auto, using(font_bytes::proofs::Recorded::records_more, font_bytes::proofs::Recorded::records_end))]
 pub fn kern_feature(alloc: Global, index: usize, count: usize) -> Result<FeatureRecord, AllocError>
     requires { index + 2 * count ≤ 65536 }

@@ -14,7 +14,7 @@ use Rattle.font_lists.specs.declared.lookups.LookupHead.{LookupHead}
 use Rattle.font_lists.specs.declared.lookups.SubtablePlace.{SubtablePlace}
 use Rattle.font_lists.specs.Lookups.{lookup_head_at, subtables_of, type_of}
 
--- the subtables of a lookup, in a table of so many lookups, by its type; none of an unknown type
+-- the subtables of a lookup, in a table of n lookups, by its type; none of an unknown type
 abbrev pub positions_of : ℕ → ℕ → ℕ → List ℕ → List SubtablePlace → Result (PositioningSubtables × ℕ) TableFault
 positions_of lookup_count lookup_type room table ps =
     if lookup_type == 1 then subtables_of Single single_pos_at room table ps
@@ -32,7 +32,7 @@ abbrev pub positioning_of_head : ℕ → List ℕ → LookupHead × ℕ → Resu
 positioning_of_head lookup_count table h = and_then (positions_of lookup_count (type_of h.0.subtables) h.1 table h.0.subtables)
     (λ s. Ok (record { flags = h.0.flags; mark_filtering_set = h.0.set; subtables = s.0 }, s.1))
 
--- the lookup at an offset, in a table of so many lookups and a font of so many mark glyph sets; extensions are of type 9
+-- the lookup at an offset, in a table of n lookups and a font of n mark glyph sets; extensions are of type 9
 abbrev pub positioning_lookup_at : ℕ → ℕ → ℕ → List ℕ → ℕ → Result (PositioningLookup × ℕ) TableFault
 positioning_lookup_at lookup_count set_count room table at = and_then (lookup_head_at 9 set_count room table at) (positioning_of_head lookup_count table)
 

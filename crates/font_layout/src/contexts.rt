@@ -8,7 +8,7 @@ use font_lists::subtables::SubtableReader;
 use layout_tables::context::ContextSubtable;
 use std::alloc::Global;
 
-/// Contexts, or chained contexts, of a table of so many lookups.
+/// Contexts, or chained contexts, of a table of n lookups.
 #[derive(Clone, Copy)]
 pub struct ContextReader {
     pub chained: bool,

@@ -127,7 +127,7 @@ impl SubtableReader for MarkLigatureReader {
     }
 }
 
-/// Reads the subtables of a lookup of a type, in a table of so many lookups.
+/// Reads the subtables of a lookup of a type, in a table of n lookups.
 fn read_positions(
     alloc: Global,
     lookup_count: usize,
@@ -203,7 +203,7 @@ fn read_positions(
     }
 }
 
-/// Lookups of a table of so many lookups, in a font of so many mark glyph sets.
+/// Lookups of a table of n lookups, in a font of n mark glyph sets.
 #[derive(Clone, Copy)]
 pub struct PositioningLookupReader {
     pub lookup_count: usize,

@@ -128,7 +128,7 @@ impl SubtableReader for ReverseReader {
     }
 }
 
-/// Reads the subtables of a lookup of a type, in a table of so many lookups.
+/// Reads the subtables of a lookup of a type, in a table of n lookups.
 fn read_substitutions(
     alloc: Global,
     lookup_count: usize,
@@ -197,7 +197,7 @@ fn read_substitutions(
     }
 }
 
-/// Lookups of a table of so many lookups, in a font of so many mark glyph sets.
+/// Lookups of a table of n lookups, in a font of n mark glyph sets.
 #[derive(Clone, Copy)]
 pub struct SubstLookupReader {
     pub lookup_count: usize,

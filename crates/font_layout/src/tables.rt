@@ -41,7 +41,7 @@ fn read_substitutions(
     Ok(Array::new(lookups))
 }
 
-/// Reads GSUB of a font with so many mark glyph sets.
+/// Reads GSUB of a font with n mark glyph sets.
 pub fn read_gsub(
     alloc: Global,
     set_count: usize,
@@ -87,7 +87,7 @@ fn read_positions(
     Ok(Array::new(lookups))
 }
 
-/// Reads GPOS of a font with so many mark glyph sets.
+/// Reads GPOS of a font with n mark glyph sets.
 pub fn read_gpos(
     alloc: Global,
     set_count: usize,

@@ -12,7 +12,7 @@ use Rattle.font_lists.specs.declared.variations.FeaturePlace.{FeaturePlace}
 use Rattle.font_lists.specs.Scripts.{known_indices}
 use Rattle.font_lists.specs.Tagged.{tag_records, tagged_tables}
 
--- a feature table, in a table of so many lookups: lookupIndexCount at 2, lookupListIndices at 4
+-- a feature table, in a table of n lookups: lookupIndexCount at 2, lookupListIndices at 4
 abbrev pub feature_at : ℕ → ℕ → List ℕ → TagRecord → Result (FeatureTable × ℕ) TableFault
 feature_at lookup_count room table r = and_then (need table r.at 4) (λ _. and_then (need table (r.at + 4) (2 * word table (r.at + 2)))
     (λ _. and_then (taken room (word table (r.at + 2)))

@@ -24,7 +24,7 @@ abbrev pub subtable_place : ℕ → ℕ → ℕ → List ℕ → ℕ → Result 
 subtable_place extension lookup_type base table at = if word table at == 0 then Ok None
     else (if lookup_type == extension then extended_place table (base + word table at) else Ok (Some (record { lookup_type = lookup_type; at = base + word table at })))
 
--- the same with the room that was left
+-- what a subtable's offset leads to, with the room that was left
 abbrev pub placed_subtable : ℕ → ℕ → ℕ → List ℕ → ℕ → ℕ → Result (Option SubtablePlace × ℕ) TableFault
 placed_subtable extension lookup_type base table room at = and_then (subtable_place extension lookup_type base table at) (λ p. Ok (p, room))
 
@@ -35,7 +35,7 @@ type_of (p ∷ ps) = p.lookup_type
 
 -- ---- lookups
 
--- the index of the mark filtering set of a lookup with a flag, in a font of so many sets: at an offset where
+-- the index of the mark filtering set of a lookup with a flag, in a font of n sets: at an offset where
 -- USE_MARK_FILTERING_SET is set; none where the font has no such set
 abbrev pub filtering_set : ℕ → ℕ → List ℕ → ℕ → Option ℕ
 filtering_set set_count flags table at = if bit_and flags 16 == 0 then None else (if nat_lt (word table at) set_count then Some (word table at) else None)
@@ -71,6 +71,6 @@ subtables_of_type read room table lookup_type ps = in_turn (λ r p. if_any (subt
 abbrev pub subtables_in : {S : Type 0} → (ℕ → List ℕ → ℕ → Result (Option S × ℕ) TableFault) → ℕ → List ℕ → List SubtablePlace → Result (List S × ℕ) TableFault
 subtables_in read room table ps = subtables_of_type read room table (type_of ps) ps
 
--- the same as the subtables of a lookup
+-- a lookup's subtables of the type of the first, in the form of that type
 abbrev pub subtables_of : {S L : Type 0} → (List S → L) → (ℕ → List ℕ → ℕ → Result (Option S × ℕ) TableFault) → ℕ → List ℕ → List SubtablePlace → Result (L × ℕ) TableFault
 subtables_of form read room table ps = and_then (subtables_in read room table ps) (λ s. Ok (form s.0, s.1))

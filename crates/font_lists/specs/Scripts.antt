@@ -9,15 +9,15 @@ use Rattle.layout_tables.specs.Layout.{LangSysTable, LangSysEntry, ScriptTable}
 use Rattle.font_lists.specs.declared.tagged.TagRecord.{TagRecord}
 use Rattle.font_lists.specs.Tagged.{by_tag, place_of, tag_records, tagged_tables}
 
--- an index of a list of so many, none where it has no such element, as 65535, which names none
+-- an index of a list of n elements, none where it has no such one, as 65535, which names none
 abbrev pub known_index : ℕ → ℕ → Option ℕ
 known_index count i = if nat_lt i count then Some i else None
 
--- the indices that a list of so many has
+-- the indices that a list of n elements has
 abbrev pub known_indices : ℕ → List ℕ → List ℕ
 known_indices count is = filter (λ i. nat_lt i count) is
 
--- a language system table, in a table of so many features: requiredFeatureIndex at 2, featureIndexCount at 4, featureIndices
+-- a language system table, in a table of n features: requiredFeatureIndex at 2, featureIndexCount at 4, featureIndices
 -- at 6
 abbrev pub lang_sys_at : ℕ → ℕ → List ℕ → ℕ → Result (LangSysTable × ℕ) TableFault
 lang_sys_at feature_count room table at = and_then (need table at 6) (λ _. and_then (need table (at + 6) (2 * word table (at + 4)))

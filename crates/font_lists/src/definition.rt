@@ -99,7 +99,7 @@ impl TableReader for AttachmentReader {
     }
 }
 
-/// Reads coverages at an array of so many Offset32, which count from a base.
+/// Reads coverages at an array of n Offset32, which count from a base.
 #[tactic(auto, using(font_bytes::proofs::Recorded::records_more, font_bytes::proofs::Recorded::records_end))]
 fn read_coverages(
     alloc: Global,

@@ -38,7 +38,7 @@ fn read_feature(
     Ok(FeatureRecord::new(tagged.tag, lookups))
 }
 
-/// Features of a table of so many lookups.
+/// Features of a table of n lookups.
 #[derive(Clone, Copy)]
 pub struct FeatureReader {
     pub lookup_count: usize,
@@ -94,7 +94,7 @@ fn feature_record(
     substituted_by(places.get(index), tag_record(table, base, at))
 }
 
-/// Reads an array of so many feature records, with the places of the features that stand in the place of others.
+/// Reads an array of n feature records, with the places of the features that stand in the place of others.
 #[tactic(auto, using(font_bytes::proofs::Recorded::records_more, font_bytes::proofs::Recorded::records_end))]
 fn read_feature_records(
     alloc: Global,
@@ -140,7 +140,7 @@ fn read_feature_list(
     read_tagged_tables(&reader, alloc, table, &tagged, room)
 }
 
-/// Reads the features of a list, none where its offset is null, in a table of so many lookups; at the places stand features
+/// Reads the features of a list, none where its offset is null, in a table of n lookups; at the places stand features
 /// in the place of others.
 pub fn read_features(
     alloc: Global,

@@ -12,7 +12,7 @@ use font_bytes::words::{need, word};
 use layout_tables::script::{LangSys, LangSysRecord, ScriptRecord};
 use std::alloc::Global;
 
-/// An index of a list of so many, none where the list has no such element.
+/// An index of a list of n elements, none where the list has no such element.
 fn known_index(count: usize, index: u16) -> Option<u16>
     ensures { result ≡ known_index count index }
 {
@@ -23,7 +23,7 @@ fn known_index(count: usize, index: u16) -> Option<u16>
     }
 }
 
-/// Appends an index that a list of so many has.
+/// Appends an index that a list of n elements has.
 fn push_known(indices: &mut Vec<u16>, count: usize, index: u16) -> Result<(), TableFault>
     ensures ok { OnOk result (indices.new.items ≡ indices.old.items ++ known_indices count (index ∷ [])) }
     ensures refused { IfErr result (λ e. e ≡ TableFault.OutOfMemory) }
@@ -34,7 +34,7 @@ fn push_known(indices: &mut Vec<u16>, count: usize, index: u16) -> Result<(), Ta
     Ok(())
 }
 
-/// Reads the indices of an array that a list of so many has.
+/// Reads the indices of an array that a list of n elements has.
 #[tactic(auto, using(font_bytes::proofs::Recorded::records_more, font_bytes::proofs::Recorded::records_end))]
 pub fn read_known_indices(
     alloc: Global,
@@ -75,7 +75,7 @@ fn read_lang_sys(
     Ok(LangSys::new(required, features))
 }
 
-/// Language systems of a table of so many features.
+/// Language systems of a table of n features.
 #[derive(Clone, Copy)]
 pub struct LangSysReader {
     pub feature_count: usize,
@@ -122,7 +122,7 @@ fn read_default(
     Ok(Some(system))
 }
 
-/// Reads the language systems of so many records of a script table.
+/// Reads the language systems of n records of a script table.
 #[tactic(auto, using(crate::proofs::Kept::rising_by_keys))]
 fn read_lang_systems(
     alloc: Global,
@@ -173,7 +173,7 @@ fn read_script(
     }
 }
 
-/// Scripts of a table of so many features.
+/// Scripts of a table of n features.
 #[derive(Clone, Copy)]
 pub struct ScriptReader {
     pub feature_count: usize,
@@ -223,7 +223,7 @@ fn read_script_list(
     read_tagged_tables(&reader, alloc, table, tagged.rising_rows(), room)
 }
 
-/// Reads the scripts of a list, none where its offset is null, in a table of so many features.
+/// Reads the scripts of a list, none where its offset is null, in a table of n features.
 pub fn read_scripts(
     alloc: Global,
     feature_count: usize,

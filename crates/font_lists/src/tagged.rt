@@ -54,7 +54,7 @@ pub fn tag_record(table: &[u8], base: usize, at: usize) -> TagRecord
     }
 }
 
-/// Reads an array of so many records.
+/// Reads an array of n records.
 #[tactic(auto, using(font_bytes::proofs::Recorded::records_more, font_bytes::proofs::Recorded::records_end))]
 pub fn read_tag_records(
     alloc: Global,
@@ -84,7 +84,7 @@ fn sort_by_tag(tagged: &mut Vec<TagRecord>) -> Result<(), TableFault>
     Ok(())
 }
 
-/// Reads an array of so many records by rising tags, of one tag the first.
+/// Reads an array of n records by rising tags, of one tag the first.
 pub fn read_by_tag(
     alloc: Global,
     table: &[u8],

@@ -60,7 +60,7 @@ fn condition_fits(table: &[u8], place: usize) -> Result<bool, TableFault>
     }
 }
 
-/// Whether each of so many conditions holds, whose offsets count from a base.
+/// Whether each of n conditions holds, whose offsets count from a base.
 #[tactic(auto, using(font_bytes::proofs::Recorded::records_more, font_bytes::proofs::Recorded::records_end))]
 fn conditions_fit(table: &[u8], base: usize, at: usize, count: usize) -> Result<bool, TableFault>
     requires base_within { base ≤ length table.now }
@@ -99,7 +99,7 @@ fn set_fits(table: &[u8], place: usize, room: &mut Room) -> Result<bool, TableFa
     condition_set_fits(table, place, room)
 }
 
-/// The place of the substitution of the first of so many records whose condition set holds, 0 where there is none.
+/// The place of the substitution of the first of n records whose condition set holds, 0 where there is none.
 #[tactic(auto, using(font_bytes::proofs::Recorded::records_more, font_bytes::proofs::Recorded::records_end))]
 fn first_fitting(
     table: &[u8],
@@ -134,7 +134,7 @@ fn feature_place(table: &[u8], base: usize, at: usize) -> FeaturePlace
     }
 }
 
-/// Reads an array of so many records.
+/// Reads an array of n records.
 #[tactic(auto, using(font_bytes::proofs::Recorded::records_more, font_bytes::proofs::Recorded::records_end))]
 fn read_places(
     alloc: Global,

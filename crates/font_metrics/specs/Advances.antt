@@ -23,7 +23,7 @@ abbrev pub bearing_at : List ℕ → ℕ → ℕ → Option ℤ
 bearing_at table long g = if nat_lt g long then Some (signed table (4 * g + 2))
     else (if long == 0 || not (fits table (4 * long + 2 * (g - long)) 2) then None else Some (signed table (4 * long + 2 * (g - long))))
 
--- the advances of so many glyphs
+-- the advances of n glyphs
 unfoldable pub advance_rows : List ℕ → ℕ → ℕ → List (GlyphRow ℕ)
 advance_rows table long count = if long == 0 then [] else value_rows (λ g. Some (advance_at table long g)) 0 count
 
@@ -31,7 +31,7 @@ advance_rows table long count = if long == 0 then [] else value_rows (λ g. Some
 abbrev pub line_height : LineMetrics → Option ℕ
 line_height line = if int_lt (line.ascender -ℤ line.descender) (pos 0) || int_lt (pos 65535) (line.ascender -ℤ line.descender) then None else Some (nat_abs (line.ascender -ℤ line.descender))
 
--- the same height for each glyph, unless it is the one that a missing row means
+-- one height for each glyph, unless it is the one that a missing row means
 abbrev pub rows_of_height : Option ℕ → ℕ → ℕ → List (GlyphRow ℕ)
 rows_of_height None upem count = []
 rows_of_height (Some height) upem count = if height == upem then [] else value_rows (λ _. Some height) 0 count

@@ -21,9 +21,11 @@ outline_from glyf (Some start) (Some end) = if nat_lt (length glyf) end || nat_l
 abbrev pub outline_at : List ℕ → Bool → List ℕ → ℕ → Option ℕ
 outline_at loca is_long glyf g = outline_from glyf (glyph_offset loca is_long g) (glyph_offset loca is_long (g + 1))
 
+-- the lesser of two coordinates
 abbrev pub least : ℤ → ℤ → ℤ
 least a b = if int_le a b then a else b
 
+-- the greater of two coordinates
 abbrev pub greatest : ℤ → ℤ → ℤ
 greatest a b = if int_le a b then b else a
 
@@ -54,7 +56,7 @@ placed_box None bearing = record { left = pos 0; bottom = pos 0; right = pos 0; 
 placed_box (Some b) None = moved_box b b.left
 placed_box (Some b) (Some left) = moved_box b left
 
--- the boxes of so many glyphs from one on
+-- the boxes of n glyphs from one on
 abbrev pub glyf_boxes : List ℕ → Bool → List ℕ → List ℕ → ℕ → ℕ → ℕ → List GlyphBox
 glyf_boxes loca is_long glyf hmtx long g zero = []
 glyf_boxes loca is_long glyf hmtx long g (suc count) = placed_box (outline_box loca is_long glyf g) (bearing_at hmtx long g) ∷ glyf_boxes loca is_long glyf hmtx long (g + 1) count

@@ -30,6 +30,6 @@ extents_from (Some b) = extents_of b
 abbrev pub extents_at : List GlyphBox → ℕ → Option hb_glyph_extents_t
 extents_at boxes g = extents_from (slice_get boxes g)
 
--- the extents of so many glyphs
+-- the extents of n glyphs
 abbrev pub extent_rows : List GlyphBox → ℕ → List (GlyphRow hb_glyph_extents_t)
 extent_rows boxes count = value_rows (extents_at boxes) 0 count

@@ -50,7 +50,7 @@ box_origin line (Some b) (Some bearing) = bearing_origin b bearing line.ascender
 abbrev pub box_origin_at : List GlyphBox → List ℕ → ℕ → LineMetrics → ℕ → Option ℤ
 box_origin_at boxes vmtx long line g = box_origin line (slice_get boxes g) (bearing_at vmtx long g)
 
--- the origins of so many glyphs
+-- the origins of n glyphs
 abbrev pub box_origins : List GlyphBox → List ℕ → ℕ → LineMetrics → ℕ → List (GlyphRow ℤ)
 box_origins boxes vmtx long line count = value_rows (box_origin_at boxes vmtx long line) 0 count
 
@@ -77,10 +77,10 @@ height_else (Some height) usual = height
 abbrev pub vorg_origin : List (GlyphRow ℤ) → Heights → ℕ → Option ℤ
 vorg_origin rows h g = unusual (height_else (value_of g rows) h.usual) h.ascender
 
--- the origins of so many glyphs by records and a default one
+-- the origins of n glyphs by records and a default one
 abbrev pub recorded_origins : Heights → ℕ → List (GlyphRow ℤ) → List (GlyphRow ℤ)
 recorded_origins h count rows = value_rows (vorg_origin rows h) 0 count
 
--- the origins of so many glyphs by VORG: defaultVertOriginY at 4
+-- the origins of n glyphs by VORG: defaultVertOriginY at 4
 unfoldable pub vorg_origins : List ℕ → ℤ → ℕ → Result (List (GlyphRow ℤ)) TableFault
 vorg_origins table ascender count = and_then (origin_records table) (λ rows. Ok (recorded_origins (record { usual = signed table 4; ascender = ascender }) count rows))

@@ -7,7 +7,7 @@ abbrev pub value_row : {V : Type 0} → ℕ → Option V → List (GlyphRow V)
 value_row g None = []
 value_row g (Some v) = record { glyph = g; value = v } ∷ []
 
--- the rows of so many glyphs from one on, by their values
+-- the rows of n glyphs from one on, by their values
 abbrev pub value_rows : {V : Type 0} → (ℕ → Option V) → ℕ → ℕ → List (GlyphRow V)
 value_rows value g zero = []
 value_rows value g (suc count) = value_row g (value g) ++ value_rows value (g + 1) count

@@ -146,7 +146,7 @@ fn placed_box(outline: Option<HeaderBox>, bearing: Option<i16>) -> GlyphBox
 }
 
 /// The box of each glyph, by the tables loca (with offsets of 32 or 16 bits) and glyf, moved to the left side bearing of
-/// hmtx, which has so many long metrics.
+/// hmtx, which has n long metrics.
 #[tactic(auto, using(crate::proofs::Boxed::boxes_more))]
 pub fn glyf_boxes(
     alloc: Global,

@@ -59,7 +59,7 @@ fn extents_at(boxes: &[GlyphBox], glyph: u16) -> Option<hb_glyph_extents_t>
     }
 }
 
-/// The rows of extents of so many glyphs, each with a box at its number.
+/// The rows of extents of n glyphs, each with a box at its number.
 #[tactic(auto, using(crate::proofs::Rows::value_pushed, crate::proofs::Rows::value_rows_rise))]
 pub fn extent_rows(
     alloc: Global,

@@ -93,7 +93,7 @@ fn box_origin_at(
 }
 
 /// The rows of vertical origins of a font without VORG, by the boxes of its glyphs and the top side bearings of vmtx, which
-/// has so many long metrics (0 without it). A glyph whose origin is the ascender has no row.
+/// has n long metrics (0 without it). A glyph whose origin is the ascender has no row.
 #[tactic(auto, using(crate::proofs::Rows::value_pushed, crate::proofs::Rows::value_rows_rise))]
 pub fn box_origins(
     alloc: Global,

@@ -10,7 +10,7 @@ use Rattle.font_names.specs.Strings.{macintosh_strings, string_in, string_starts
 abbrev pub name_row : ℕ → List ℕ → List GlyphName
 name_row g name = if length name == 0 then [] else record { glyph = g; name = latin_text name } ∷ []
 
--- the rows of so many glyphs from one on, by their names
+-- the rows of n glyphs from one on, by their names
 abbrev pub name_rows : (ℕ → List ℕ) → ℕ → ℕ → List GlyphName
 name_rows name g zero = []
 name_rows name g (suc count) = name_row g (name g) ++ name_rows name (g + 1) count
@@ -35,6 +35,6 @@ indexed_names post count = and_then (need post 32 2) (λ _. and_then (need post 
 abbrev pub names_of_version : List ℕ → ℕ → ℕ → Result (List GlyphName) TableFault
 names_of_version post count version = if version == 65536 then Ok (standard_rows count) else (if version == 131072 then indexed_names post count else Ok [])
 
--- the names of so many glyphs: the version at 0
+-- the names of n glyphs: the version at 0
 unfoldable pub names_at : List ℕ → ℕ → Result (List GlyphName) TableFault
 names_at post count = and_then (need post 0 32) (λ _. names_of_version post count (long post 0))

@@ -13,7 +13,7 @@ has_string bytes at = fits bytes at 1 && fits bytes (at + 1) (byte bytes at)
 abbrev pub string_at : List ℕ → ℕ → List ℕ
 string_at bytes at = if has_string bytes at then slice_range bytes (at + 1) (at + 1 + byte bytes at) else []
 
--- where so many strings begin that follow one another, up to the first that doesn't end within the bytes
+-- where n strings begin that follow one another, up to the first that doesn't end within the bytes
 unfoldable pub string_starts : List ℕ → ℕ → ℕ → List ℕ
 string_starts bytes at zero = []
 string_starts bytes at (suc count) = if has_string bytes at then at ∷ string_starts bytes (at + 1 + byte bytes at) count else []

@@ -80,7 +80,7 @@ fn push_indexed(
     }
 }
 
-/// Version 2.0: the names of so many glyphs by their indices, of which the table has as many.
+/// Version 2.0: the names of n glyphs by their indices, of which the table has as many.
 #[tactic(auto, using(crate::proofs::Rows::name_pushed, crate::proofs::Rows::name_rows_rise), unfolding(crate::specs::Names::indexed_rows))]
 fn indexed_rows(
     alloc: Global,
@@ -115,7 +115,7 @@ fn read_indexed(alloc: Global, post: &[u8], count: u16) -> Result<SortedRows<Nam
     indexed_rows(alloc, post, glyphs, count.min(glyphs))
 }
 
-/// Reads the names of so many glyphs: of version 1.0 the standard ones, of version 2.0 those of the table; none of the other
+/// Reads the names of n glyphs: of version 1.0 the standard ones, of version 2.0 those of the table; none of the other
 /// versions. A glyph whose name is empty has no row.
 #[tactic(auto, unfolding(crate::specs::Names::names_at))]
 pub fn read_names(alloc: Global, post: &[u8], count: u16) -> Result<SortedRows<NameRow>, TableFault>

@@ -30,7 +30,7 @@ fn string_at(bytes: &[u8], at: usize) -> &[u8]
     }
 }
 
-/// Where strings begin that follow one another from an offset on, so many at most, up to the first that doesn't end within
+/// Where strings begin that follow one another from an offset on, n at most, up to the first that doesn't end within
 /// the bytes.
 #[tactic(auto, using(crate::proofs::Starts::starts_none, crate::proofs::Starts::starts_more, crate::proofs::Starts::starts_end))]
 pub fn string_starts(

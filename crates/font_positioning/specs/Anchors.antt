@@ -23,6 +23,6 @@ anchor_at base table at = if word table at == 0 then Ok None else anchor_table t
 abbrev pub anchor_item : ℕ → List ℕ → ℕ → ℕ → Result (Option (Option Anchor) × ℕ) TableFault
 anchor_item base table room at = and_then (anchor_at base table at) (λ a. Ok (Some a, room))
 
--- so many anchors, whose offsets from a base stand one after another
+-- n anchors, whose offsets from a base stand one after another
 abbrev pub anchor_list : ℕ → List ℕ → ℕ → ℕ → ℕ → Result (List (Option Anchor) × ℕ) TableFault
 anchor_list base table at count room = array_at (anchor_item base table) 2 at count room

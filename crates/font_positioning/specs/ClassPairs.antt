@@ -30,12 +30,12 @@ rows_below count rows = filter (λ r. nat_lt r.value count) rows
 abbrev pub has_records : List (GlyphRow ℕ) → ℕ → ℕ → Bool
 has_records rows count glyph = nat_lt (unwrap_or (value_of glyph rows) 0) count
 
--- Class2Records: the value records of so many second classes
+-- Class2Records: the value records of n second classes
 abbrev pub class2_records : ℕ → ℕ → List ℕ → ℕ → ℕ → Class1Record
 class2_records format1 format2 table count at =
     record { class2_records = records (pair_values format1 format2 table) (pair_size format1 format2) at count }
 
--- Class1Records: the records of so many first classes
+-- Class1Records: the records of n first classes
 abbrev pub class1_records : ℕ → ℕ → List ℕ → ℕ → ℕ → ℕ → List Class1Record
 class1_records format1 format2 table count1 count2 at =
     records (class2_records format1 format2 table count2) (pair_size format1 format2 * count2) at count1

@@ -15,16 +15,19 @@ field_size format bit = if has_field format bit then 2 else 0
 abbrev pub field_at : ℕ → ℕ → List ℕ → ℕ → ℤ
 field_at format bit table at = if has_field format bit then signed table at else pos 0
 
--- the bytes of xPlacement (bit 1), of yPlacement (2) too, of xAdvance (4) too, of yAdvance (8) too
+-- the bytes of xPlacement (bit 1); yPlacement has bit 2, xAdvance 4, yAdvance 8
 abbrev pub one_size : ℕ → ℕ
 one_size format = field_size format 1
 
+-- the bytes of xPlacement and yPlacement
 abbrev pub two_size : ℕ → ℕ
 two_size format = one_size format + field_size format 2
 
+-- the bytes of xPlacement, yPlacement and xAdvance
 abbrev pub three_size : ℕ → ℕ
 three_size format = two_size format + field_size format 4
 
+-- the bytes of xPlacement, yPlacement, xAdvance and yAdvance
 abbrev pub four_size : ℕ → ℕ
 four_size format = three_size format + field_size format 8
 

@@ -72,7 +72,7 @@ impl RecordReader for Anchors {
     }
 }
 
-/// Reads so many anchors, whose offsets from a base stand one after another. An anchor takes a row of room.
+/// Reads n anchors, whose offsets from a base stand one after another. An anchor takes a row of room.
 pub(crate) fn read_anchors(
     alloc: Global,
     base: usize,

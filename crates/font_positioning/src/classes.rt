@@ -97,7 +97,7 @@ pub(crate) fn first_glyphs(
     Coverage::new(alloc, kept)
 }
 
-/// Reads the records of a first class: those of so many second classes.
+/// Reads the records of a first class: those of n second classes.
 fn read_class2_records(
     format: PairFormat,
     alloc: Global,
@@ -128,7 +128,7 @@ pub(crate) fn row_size(format: PairFormat, count: u16) -> usize
     pair_size(format) * usize::from(count)
 }
 
-/// Reads the records of so many first classes.
+/// Reads the records of n first classes.
 pub(crate) fn read_class1_records(
     format: PairFormat,
     alloc: Global,

@@ -6,7 +6,7 @@ use Rattle.font_bytes.specs.Words.{need, word}
 use Rattle.font_bytes.specs.Room.{taken}
 use Rattle.font_bytes.specs.Records.{records}
 
--- so many glyphs from an offset on, each of which takes a row of room
+-- n glyphs from an offset on, each of which takes a row of room
 abbrev pub glyph_list : ℕ → List ℕ → ℕ → ℕ → Result (List ℕ × ℕ) TableFault
 glyph_list room table at count =
     and_then (need table at (2 * count)) (λ _. and_then (taken room count) (λ left. Ok (records (word table) 2 at count, left)))

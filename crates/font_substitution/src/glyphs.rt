@@ -9,7 +9,7 @@ use font_bytes::room::Room;
 use font_bytes::words::{need, word};
 use std::alloc::Global;
 
-/// Reads so many glyphs from an offset on. A glyph takes a row of room.
+/// Reads n glyphs from an offset on. A glyph takes a row of room.
 #[tactic(auto, using(font_bytes::proofs::Recorded::records_more, font_bytes::proofs::Recorded::records_end))]
 pub(crate) fn read_glyph_list(
     alloc: Global,
