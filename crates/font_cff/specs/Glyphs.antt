@@ -6,7 +6,7 @@ use Rattle.font_common.specs.Offsets.{tables_in}
 use Rattle.layout_face.specs.Names.{GlyphName}
 use Rattle.font_cff.specs.declared.header.Cff.{Cff}
 use Rattle.font_cff.specs.declared.fonts.Private.{Private}
-use Rattle.font_cff.specs.declared.outlines.GlyphBox.{GlyphBox}
+use Rattle.font_metrics.specs.declared.boxes.GlyphBox.{GlyphBox}
 use Rattle.font_cff.specs.declared.glyphs.CffParts.{CffParts}
 use Rattle.font_cff.specs.Header.{cff_of}
 use Rattle.font_cff.specs.Fonts.{numbers, privates_of}

@@ -15,7 +15,7 @@ use Rattle.font_strings.specs.Standard.{standard_code}
 use Rattle.font_cff.specs.declared.header.Cff.{Cff}
 use Rattle.font_cff.specs.declared.fonts.Private.{Private}
 use Rattle.font_cff.specs.declared.outlines.Accent.{Accent}
-use Rattle.font_cff.specs.declared.outlines.GlyphBox.{GlyphBox}
+use Rattle.font_metrics.specs.declared.boxes.GlyphBox.{GlyphBox}
 
 -- the nearest whole number of font units, of two the one farther from 0, within 31 bits
 unfoldable pub whole : ℕ → ℤ

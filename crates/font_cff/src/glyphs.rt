@@ -10,10 +10,11 @@ use crate::charset::read_charset;
 use crate::fonts::read_privates;
 use crate::header::{Cff, read_header};
 use crate::names::read_names;
-use crate::outlines::{GlyphBox, Outlines, Work, glyph_box};
+use crate::outlines::{Outlines, Work, glyph_box};
 use crate::selects::read_selects;
 use font_bytes::fault::TableFault;
 use font_bytes::room::Room;
+use font_metrics::GlyphBox;
 use layout_face::parts::NameRow;
 use std::alloc::Global;
 

@@ -10,8 +10,7 @@ pub mod names;
 pub mod outlines;
 pub mod selects;
 
-pub use glyphs::{CffGlyphs, read_cff};
-pub use outlines::GlyphBox;
+pub use glyphs::{CffGlyphs, CffParts, read_cff};
 
 #[cfg(test)]
 mod tests;

@@ -12,16 +12,8 @@ use font_charstrings::index::{Span, object};
 use font_charstrings::machine::{Context, run_steps};
 use font_charstrings::operators::Run;
 use font_charstrings::pen::{ORIGIN, Pen, moved_pen, new_pen};
+use font_metrics::GlyphBox;
 use font_strings::standard_code;
-
-/// The least and the greatest coordinates of the points of an outline, in font units; 0 where it has none.
-#[derive(Clone, Copy, PartialEq, Eq, Debug)]
-pub struct GlyphBox {
-    pub left: i32,
-    pub bottom: i32,
-    pub right: i32,
-    pub top: i32,
-}
 
 /// What the outlines of a table share: its private DICTs, the index of the private DICT of each glyph (none where all have
 /// the first one), and the string numbers of the glyphs.

@@ -1,2 +1,10 @@
 pub mod Found
 pub mod Count
+pub mod Parts
+pub mod Rooms
+pub mod Headers
+pub mod Advances
+pub mod Drawn
+pub mod Characters
+pub mod Layouts
+pub mod Face

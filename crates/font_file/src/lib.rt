@@ -2,8 +2,18 @@
 //! isn't read (OpenType, chapter 4).
 #![tactic(auto)]
 
+mod advances;
+mod characters;
 mod count;
+mod drawn;
+mod face;
 mod found;
+mod headers;
+mod layouts;
+mod parts;
+mod rooms;
 
 pub use count::font_count;
+pub use face::read_font;
 pub use font_bytes::{FontFault, FontTable};
+pub use parts::FontParts;
