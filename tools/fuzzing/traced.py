@@ -135,7 +135,10 @@ def how_ended(ran: subprocess.CompletedProcess[str], ending: str) -> str:
     if ran.returncode == 0 and not said:
         return DONE
     if ran.returncode in (DATA, FILES) and len(said) == 1:
-        return REFUSED if ran.returncode == DATA else FAILED if "/" in said[0] else f"a fault without a name: {said[0]}"
+        if ran.returncode == DATA:
+            return REFUSED
+        is_named = "/" in said[0] or "standard output: " in said[0]
+        return FAILED if is_named else f"a fault without a name: {said[0]}"
     return f"status {ran.returncode}: {' '.join(said)[-300:]}"
 
 
