@@ -49,6 +49,13 @@ impl Coverage {
         Ok(Coverage { glyphs, bits })
     }
 
+    /// The glyphs, in rising order.
+    pub fn as_slice(&self) -> &[u16]
+        ensures { result.now ≡ self.now }
+    {
+        &self.glyphs
+    }
+
     /// Whether the set has a glyph: by its bit, in logarithmic time where the glyphs lie too far apart for bits.
     pub fn contains(&self, glyph: u16) -> bool
         ensures { result ≡ is_covered glyph self.now }

@@ -55,6 +55,13 @@ impl Face {
         face
     }
 
+    /// The font's data, field by field.
+    pub fn parts(&self) -> &FaceParts
+        ensures { result.now ≡ self.now }
+    {
+        &self.parts
+    }
+
     /// Font units per em.
     pub fn units_per_em(&self) -> i32
         ensures { result ≡ pos self.now.upem }

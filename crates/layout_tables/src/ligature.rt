@@ -124,6 +124,13 @@ impl LigatureSubst {
         LigatureSubst { sets }
     }
 
+    /// The ligature sets, by rising first glyphs.
+    pub fn as_slice(&self) -> &[LigatureSet]
+        ensures { result.now ≡ self.now }
+    {
+        &self.sets
+    }
+
     /// The set of a first glyph, none where the subtable doesn't cover the glyph: at once where no glyph before it lacks
     /// a set, as among the consonants of an Indic script, else in logarithmic time.
     pub fn set_of(&self, glyph: u16) -> Option<&LigatureSet>
