@@ -19,6 +19,7 @@ use Rattle.buffer_core.specs.Inside.{sides_of}
 use Rattle.buffer_core.specs.Sides.{Sides, all_glyphs, items_of}
 use Rattle.buffer_core.specs.Merging.{output_merged_at, index_in_all, with_has_glyph_flags, with_glyphs, with_output_merged}
 use Rattle.buffer_core.specs.Marking.{with_flagged_apart, with_flagged}
+use Rattle.buffer_lists.proofs.Ordered.{stretch_first}
 
 -- a range that goes over the end of the first of two lists
 slice_across : {X : Type 0} (xs ys : List X) (start n : ℕ) → start ≤ length xs → slice_range (xs ++ ys) start (length xs + n) ≡ drop start xs ++ take n ys
@@ -94,14 +95,6 @@ pub flagged_across_view : (b : Inside) (info : Vec hb_glyph_info_t) (order : Clu
 flagged_across_view b info order bits start end flags opened h le begins o i f =
     let n : end + b.gap - b.idx ≡ end - (b.idx - b.gap) = omega (arith, opened) in
     rw h (flagged_across_sides (record (sides_of b) { behind = take b.out_len b.info.items; positions = []; is_open = true; read = b.idx - b.gap }) (take b.out_len info.items) (drop b.idx info.items) bits start end flags le begins o (rw n at i) (rw n at f))
-
--- a range within the first of two lists
-stretch_first : (xs ys : List hb_glyph_info_t) (start end : ℕ) → start ≤ end → end ≤ length xs → range_of start end (clusters (xs ++ ys)) ≡ range_of start end (clusters xs)
-stretch_first xs ys start end le within =
-    let long = length-drop start xs in
-    let few : end - start ≤ length (drop start xs) = omega (arith, long) in
-    let inner : slice_range (xs ++ ys) start end ≡ slice_range xs start end = rw (drop-append-le start xs ys (omega (arith, le, within))) (take-append-le (end - start) (drop start xs) ys few) in
-    range_clusters (xs ++ ys) start end ∙ ap clusters inner ∙ sym (range_clusters xs start end)
 
 united_both : (xs ys : List hb_glyph_info_t) (start end : ℕ) → start ≤ end → end ≤ length xs
     → glyphs_merged (range_of start end (clusters (xs ++ ys))) (xs ++ ys) ≡ glyphs_merged (range_of start end (clusters xs)) xs ++ glyphs_merged (range_of start end (clusters xs)) ys

@@ -54,7 +54,7 @@ pub added_items : (c k : ℕ) (s : Sides) → items_of (with_added (added_glyph 
 added_items c k s = added_seen item_of (added_glyph c k ∷ []) s
 
 -- the characters of a text at the end
-items_from : (at : ℕ) (cs : List ℕ) → strip (added_text_from at cs) ≡ map (λ c. item_of (added_glyph c 0)) cs
+pub items_from : (at : ℕ) (cs : List ℕ) → strip (added_text_from at cs) ≡ map (λ c. item_of (added_glyph c 0)) cs
 items_from at [] = refl
 items_from at (c ∷ cs) = ap (λ xs. item_of (added_glyph c 0) ∷ xs) (items_from (at + len_utf8 c) cs)
 

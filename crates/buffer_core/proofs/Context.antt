@@ -19,9 +19,6 @@ last_none bs e = ap reverse (first_none bs e)
 pub first_step : (bs rest : List ℕ) (c : ℕ) → IsUtf8 bs → bs ≡ encode_utf8 c ++ rest → chars bs ≡ c ∷ chars rest
 first_step bs rest c u e = chars_past_char bs rest c u e
 
-pub past_first : (bs rest : List ℕ) (c : ℕ) → IsUtf8 bs → bs ≡ encode_utf8 c ++ rest → IsUtf8 rest
-past_first bs rest c u e = IsUtf8-past_char bs rest c u e
-
 -- the last character begins where the text may be cut
 cut_there : (rest end : List ℕ) → IsCharBoundary end 0 → IsCharBoundary (rest ++ end) (length rest)
 cut_there rest end b =

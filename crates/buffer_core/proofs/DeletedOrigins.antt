@@ -2,7 +2,7 @@
 use Rattle.std.proofs.Common.{◌≡◌, List, ◌∷◌, ◌++◌, length, ap, sym, ◌∙◌}
 use Rattle.buffer_glyphs.specs.declared.info.hb_glyph_info_t.{hb_glyph_info_t}
 use Rattle.buffer_glyphs.specs.Origins.{origins, origins_deleted}
-use Rattle.buffer_glyphs.specs.DeletedOrigins.{deletion_after_front}
+use Rattle.buffer_glyphs.proofs.DeletedOrigins.{deletion_after_front}
 use Rattle.buffer_core.specs.Sides.{Sides, origins_of}
 use Rattle.buffer_core.specs.Grouping.{with_current_deleted}
 

@@ -4,7 +4,7 @@ use Rattle.std.proofs.Common.{ℕ, ◌≡◌, ◌≤◌, ◌+◌, ◌-◌, Bool,
 use Rattle.std.proofs.lemmas.List.{drop-drop, map-append}
 use Rattle.buffer_glyphs.specs.declared.info.hb_glyph_info_t.{hb_glyph_info_t as Glyph}
 use Rattle.buffer_glyphs.specs.Items.{item_of, strip}
-use Rattle.buffer_glyphs.specs.Deleted.{items_deleted}
+use Rattle.buffer_glyphs.proofs.Deleted.{items_deleted}
 use Rattle.buffer_glyphs.specs.Deleting.{glyphs_deleted, Deletes}
 use Rattle.buffer_core.specs.declared.buffer.hb_buffer_t.TheInside.{Inside}
 use Rattle.buffer_lists.specs.declared.order.ClusterOrder.{ClusterOrder}

@@ -14,17 +14,17 @@ use Rattle.buffer_glyphs.specs.Items.{Item, item_of, strip}
 use Rattle.buffer_glyphs.specs.Origins.{origins}
 use Rattle.buffer_glyphs.specs.Events.{Sort}
 use Rattle.buffer_lists.specs.Events.{deletions, groups_reversed, order_of}
-use Rattle.buffer_lists.specs.Lemmas.DeletedEvents.{deletions_are_events}
-use Rattle.buffer_lists.specs.Lemmas.ReversedEvents.{groups_are_events}
-use Rattle.buffer_lists.specs.Lemmas.SortedEvents.{sort_is_event}
+use Rattle.buffer_lists.proofs.Lemmas.DeletedEvents.{deletions_are_events}
+use Rattle.buffer_lists.proofs.Lemmas.ReversedEvents.{groups_are_events}
+use Rattle.buffer_lists.proofs.Lemmas.SortedEvents.{sort_is_event}
 use Rattle.buffer_rows.specs.KeyOrder.{key_order}
 use Rattle.buffer_lists.specs.DeletionWalk.{whole_walk}
 use Rattle.buffer_lists.specs.Facts.{items_kept, positions_kept, positions_turned}
 use Rattle.buffer_lists.specs.Sorting.{range_sorted}
 use Rattle.buffer_lists.specs.Turning.{groups_reversed_list, turning_of}
-use Rattle.buffer_lists.specs.Lemmas.KeptItems.{items_all, positions_all}
-use Rattle.buffer_lists.specs.Lemmas.Regrouped.{items_turned, positions_beside}
-use Rattle.buffer_lists.specs.Lemmas.SortedItems.{items_sorted}
+use Rattle.buffer_lists.proofs.Lemmas.KeptItems.{items_all, positions_all}
+use Rattle.buffer_lists.proofs.Lemmas.Regrouped.{items_turned, positions_beside}
+use Rattle.buffer_lists.proofs.Lemmas.SortedItems.{items_sorted}
 use Rattle.buffer_core.specs.Grouping.{with_groups_reversed, with_picked_deleted}
 use Rattle.buffer_core.specs.Sides.{Sides, all_glyphs, flag_requests_of, items_of, origins_by, origins_of, requests_breaks}
 use Rattle.buffer_core.specs.Sorting.{with_range_sorted}

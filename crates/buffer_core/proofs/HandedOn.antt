@@ -7,7 +7,7 @@ use Rattle.buffer_glyphs.specs.declared.info.hb_glyph_info_t.{hb_glyph_info_t}
 use Rattle.buffer_glyphs.specs.Items.{item_of, strip}
 use Rattle.buffer_glyphs.specs.Parts.{elements_replaced, last_of}
 use Rattle.buffer_glyphs.specs.Glyphs.{glyphs_merged_at}
-use Rattle.buffer_glyphs.specs.Deleted.{items_deleted}
+use Rattle.buffer_glyphs.proofs.Deleted.{items_deleted}
 use Rattle.buffer_glyphs.specs.Deleting.{DeletionSides, glyphs_deleted, sides_handed_if}
 use Rattle.buffer_glyphs.specs.Events.{Delete, Replace}
 use Rattle.buffer_glyphs.specs.Origins.{Origin, InList, origins_handed_if, manner, origin_of, origins, origins_merged_as}
@@ -18,9 +18,10 @@ use Rattle.buffer_core.specs.Grouping.{with_current_deleted, with_deleted}
 use Rattle.buffer_core.specs.Merging.{with_copied, with_glyph_passed, with_glyph_skipped, with_handed_on, with_merged, with_replaced, with_sides}
 use Rattle.buffer_core.specs.Sides.{Sides, all_glyphs, origins_by, origins_of, requests_breaks}
 use Rattle.buffer_core.proofs.DeletedOrigins.{current_deleted_origins}
-use Rattle.buffer_core.proofs.MergedOrigins.{merged_alone, skipped_origins}
+use Rattle.buffer_core.proofs.MergedOrigins.{skipped_origins}
 use Rattle.buffer_core.proofs.Open.{end_of_copies}
 use Rattle.buffer_core.proofs.Replaced.{all_copied_merged, length_behind}
+use Rattle.buffer_lists.proofs.Lemmas.SortedEvents.{lone_merged as merged_alone}
 
 -- what is behind the cursor and ahead of it
 abbrev halves : Sides → DeletionSides

@@ -17,7 +17,7 @@ use Rattle.buffer_glyphs.specs.Origins.{origin_of}
 pub moved_all : (n : ℕ) (s : Sides) → all_glyphs (after_next_glyphs n s) ≡ all_glyphs s
 moved_all n s = append_assoc s.behind (take n s.ahead) (drop n s.ahead) ∙ ap (λ gs. s.behind ++ gs) (take-append-drop n s.ahead)
 
-all_reversed : (s : Sides) → all_glyphs (after_reverse s) ≡ reverse (all_glyphs s)
+pub all_reversed : (s : Sides) → all_glyphs (after_reverse s) ≡ reverse (all_glyphs s)
 all_reversed s = take-append-drop s.read (reverse (all_glyphs s))
 
 pub map-reverse : {X Y : Type 0} (f : X → Y) (xs : List X) → map f (reverse xs) ≡ reverse (map f xs)

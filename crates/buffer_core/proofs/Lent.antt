@@ -12,7 +12,7 @@ use Rattle.buffer_core.specs.declared.buffer.hb_buffer_t.TheInside.{Inside}
 use Rattle.buffer_core.specs.Inside.{sides_of, IsSound}
 use Rattle.buffer_core.specs.Lending.{refilled_list, with_output_refilled}
 use Rattle.buffer_core.specs.Sides.{Sides, all_glyphs}
-use Rattle.buffer_core.proofs.Open.{front_within}
+use Rattle.buffer_core.proofs.Changed.{front_before as front_within}
 
 -- what is written from the front on has at least as many elements as there were
 written_long : (xs ws : List hb_glyph_info_t) → length xs ≤ length (ws ++ drop (length ws) xs)
@@ -32,12 +32,6 @@ passed_back b order ws closed le counted =
     let long : length (take b.idx gs) ≡ b.idx = length-take-le b.idx gs le in
     let all : take b.idx gs ++ drop b.idx gs ≡ gs = take-append-drop b.idx gs in
     rw (closed, long, all, front_put b.info.len gs ws counted) refl
-
--- what comes back over the front of a list, on the front and past it
-take_nothing : (n : ℕ) (xs : List hb_glyph_info_t) → xs ≡ [] → take n xs ≡ []
-take_nothing zero xs e = refl
-take_nothing (suc n) [] e = refl
-take_nothing (suc n) (x ∷ xs) e = cc
 
 refilled_front : (xs ws : List hb_glyph_info_t) (m : ℕ) → m ≤ length xs → take m (refilled_list ws xs) ≡ refilled_list ws (take m xs)
 refilled_front xs ws m le =

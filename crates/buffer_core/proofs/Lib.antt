@@ -34,3 +34,4 @@ pub mod Changed
 pub mod Rotated
 pub mod Lent
 pub mod HandedOn
+pub mod RangeMoves

@@ -44,7 +44,7 @@ pub masked_items : (m : ℕ) (s : Sides) → items_of (with_masks m s) ≡ map (
 masked_items m s = ap strip (all_masked m s) ∙ map_map (glyph_masked m) _ (all_glyphs s) ∙ sym (map_map _ (item_masked m) (all_glyphs s))
 
 -- bits that are cleared, above the three flags
-high_cleared : (m under : ℕ) → (m - bit_and m under) / 8 ≡ m / 8 - bit_and (m / 8) (under / 8)
+pub high_cleared : (m under : ℕ) → (m - bit_and m under) / 8 ≡ m / 8 - bit_and (m / 8) (under / 8)
 high_cleared m under =
     let high = and_shr m under 3 in
     let low = and_mod m under 3 in
@@ -55,7 +55,7 @@ high_cleared m under =
 high_set : (value under m : ℕ) → bits_set value under m / 8 ≡ bit_or (m / 8 - bit_and (m / 8) (under / 8)) (bit_and value under / 8)
 high_set value under m = or_shr (m - bit_and m under) (bit_and value under) 3 ∙ ap (λ n. bit_or n (bit_and value under / 8)) (high_cleared m under)
 
-without_flags_is : (m : ℕ) → without_flags m ≡ m / 8 * 8
+pub without_flags_is : (m : ℕ) → without_flags m ≡ m / 8 * 8
 without_flags_is m = let low = and_mask m 3 in omega (arith, low)
 
 -- the three flags don't determine the bits above them

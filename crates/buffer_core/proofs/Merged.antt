@@ -15,6 +15,7 @@ use Rattle.buffer_core.specs.Inside.{sides_of, IsSound}
 use Rattle.buffer_core.specs.Sides.{Sides, all_glyphs, items_of}
 use Rattle.buffer_core.proofs.Changed.{closed_gap, ends_of}
 use Rattle.buffer_core.specs.Merging.{index_in_all, with_has_glyph_flags, with_merged}
+use Rattle.buffer_core.proofs.Marked.{places_order}
 
 -- the glyphs of both sides, and the range that was merged
 pub record IsMerged (level : BufferClusterLevel) (i j n from to : ℕ) (behind new_behind ahead new_ahead : List hb_glyph_info_t) : Type 0 where
@@ -75,9 +76,6 @@ merged_view b info order p start end flags s ends before unread i o f = by_test 
 
 pub all_merged : (from to : ℕ) (s : Sides) → all_glyphs (with_merged from to s) ≡ glyphs_merged_at s.level from to (all_glyphs s)
 all_merged from to s = take-append-drop (length s.behind) (glyphs_merged_at s.level from to (all_glyphs s))
-
-places_order : (start end : ℕ) (s : Sides) → start ≤ end → index_in_all start s ≤ index_in_all end s
-places_order start end s le = omega arith
 
 pub merged_items : (start end : ℕ) (s : Sides) → start ≤ end → items_of (with_merged (index_in_all start s) (index_in_all end s) s) ≡ items_of s
 merged_items start end s le = ap strip (all_merged (index_in_all start s) (index_in_all end s) s) ∙ strip_merged_at s.level (index_in_all start s) (index_in_all end s) (all_glyphs s) (places_order start end s le)

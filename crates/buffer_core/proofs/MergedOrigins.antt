@@ -27,7 +27,7 @@ alone : (n c : ℕ) (t : Bool) → (n == c) ≡ t → (if t || false then n else
 alone n c true e = grind (arith, common_steps, e)
 alone n c false e = refl
 
-cast_self : (c : ℕ) (o : Origin) → c ≡ o.cluster → cast c 0 o ≡ o
+pub cast_self : (c : ℕ) (o : Origin) → c ≡ o.cluster → cast c 0 o ≡ o
 cast_self c o e = rw (e, itself o.cluster) refl
 
 map_same : {X : Type 0} (f : X → X) (xs : List X) → ((x : X) → f x ≡ x) → map f xs ≡ xs
@@ -47,19 +47,6 @@ short_range (n ∷ ns) os = one_range n os
 one_marked : (os : List Origin) → map (added_outside 3 (least_number (take 1 (numbers os)))) (take 1 os) ≡ take 1 os
 one_marked [] = refl
 one_marked (o ∷ os) = rw (itself o.cluster) refl
-
--- one alone merges with none
-pub merged_alone : (m : Manner) (at : ℕ) (os : List Origin) → origins_merged_as m at (at + 1) os ≡ os
-merged_alone Unites at os = let one : at + 1 - at ≡ 1 = omega arith in rw one (short_range (drop at (numbers os)) os)
-merged_alone Marks at os =
-    let one : at + 1 - at ≡ 1 = omega arith in
-    let n : Origin → ℕ = λ o. o.cluster in
-    let low : range_of at (at + 1) (numbers os) ≡ take 1 (numbers (drop at os)) = ap (λ k. take k (drop at (numbers os))) one ∙ ap (take 1) (drop-map n at os) in
-    let range : take (at + 1 - at) (drop at os) ≡ take 1 (drop at os) = ap (λ k. take k (drop at os)) one in
-    let same : map (added_outside 3 (least_number (range_of at (at + 1) (numbers os)))) (take (at + 1 - at) (drop at os)) ≡ take (at + 1 - at) (drop at os) =
-    ap (λ ns. map (added_outside 3 (least_number ns)) (take (at + 1 - at) (drop at os))) low ∙ ap (map (added_outside 3 (least_number (take 1 (numbers (drop at os)))))) range ∙ one_marked (drop at os) ∙ sym range in
-    ap (λ xs. take at os ++ xs ++ drop (max at (at + 1)) os) same ∙ cut_in_three at (at + 1) os
-merged_alone Keeps at os = refl
 
 -- and none merge
 pub merged_none : (m : Manner) (at : ℕ) (os : List Origin) → origins_merged_as m at (at + 0) os ≡ os

@@ -13,17 +13,11 @@ use Rattle.buffer_core.specs.Moving.{after_move_to, range_reversed, with_range_r
 use Rattle.buffer_core.specs.Sides.{Sides, all_glyphs, items_of, after_next_glyphs, origins_of, origins_by}
 use Rattle.buffer_glyphs.specs.Origins.{origins}
 use Rattle.buffer_glyphs.specs.Events.{Arrange}
-use Rattle.buffer_lists.specs.Lemmas.ReversedEvents.{range_origins as reversed_range, range_seen}
+use Rattle.buffer_lists.proofs.Lemmas.ReversedEvents.{range_origins as reversed_range, range_seen}
 
 -- no glyph is deleted where the cursor moves
 pub moved_to_all : (i : ℕ) (s : Sides) → all_glyphs (after_move_to i s) ≡ all_glyphs s
 moved_to_all i s = take-append-drop i (all_glyphs s)
-
--- forward it is the way over so many glyphs
-pub moved_forth : (i n : ℕ) (s : Sides) → i ≡ length s.behind + n → after_next_glyphs n s ≡ after_move_to i s
-moved_forth i n s e =
-    let read : s.read + i - length s.behind ≡ s.read + n = omega (arith, e) in
-    rw (read, e, take-append-add s.behind s.ahead n, drop-append-add s.behind s.ahead n) refl
 
 -- a range of the list reversed
 pub range_view : (b : Inside) (info : Vec hb_glyph_info_t) (positions : Vec GlyphPosition) (order : ClusterOrder) (start end : ℕ) → b.have_output ≡ false → info.items ≡ range_reversed start end b.info.items → positions.items ≡ range_reversed start end b.pos.items

@@ -10,7 +10,7 @@ use Rattle.buffer_glyphs.specs.declared.info.hb_glyph_info_t.{hb_glyph_info_t}
 use Rattle.buffer_glyphs.specs.declared.position.GlyphPosition.{GlyphPosition}
 use Rattle.buffer_glyphs.specs.declared.level.BufferClusterLevel.{BufferClusterLevel}
 use Rattle.buffer_glyphs.specs.Items.{clusters}
-use Rattle.buffer_glyphs.specs.Lists.{take_one}
+use Rattle.buffer_glyphs.proofs.Lists.{take_one}
 use Rattle.buffer_glyphs.specs.Parts.{first_of, last_of, or, range_of}
 use Rattle.buffer_glyphs.specs.Glyphs.{glyphs_merged_at, beside_merged, is_marked_at}
 use Rattle.buffer_glyphs.specs.Lemmas.Glyphs.{length_beside, length_merged_at}
@@ -27,13 +27,7 @@ use Rattle.buffer_core.specs.Moving.{after_move_to}
 use Rattle.buffer_core.specs.Sides.{after_next_glyphs, after_sync, zero_positions, requests_breaks}
 use Rattle.buffer_core.proofs.Kept.{take_on}
 use Rattle.buffer_core.proofs.Merged.{merged_sides, same_marks}
-
--- the output's end
-pub front_within : (b : Inside) → IsSound b → b.have_output ≡ true → b.out_len ≤ b.idx
-front_within b s h = rw h at s.out_len
-
-pub front_long : (b : Inside) → IsSound b → b.have_output ≡ true → length (take b.out_len b.info.items) ≡ b.out_len
-front_long b s h = length-take-le b.out_len b.info.items (let le = front_within b s h in omega (arith, le, s.cursor))
+use Rattle.buffer_core.proofs.Changed.{front_before as front_within, front_long}
 
 pub front_limit : (b : Inside) → IsSound b → b.have_output ≡ true → b.out_len ≤ b.max_len
 front_limit b s h = rw h at s.output_within
@@ -131,44 +125,6 @@ pub along_view : (b : Inside) (k : ℕ) → b.have_output ≡ true → b.gap ≤
 along_view b k h le e =
     passed_view b b.info b.order k h le (take_on b.info.items b.out_len k ∙ ap (λ n. take b.out_len b.info.items ++ take k (drop n b.info.items)) e) refl
 
-cut_on : (ns : List ℕ) (m n k : ℕ) → m ≡ n → take (m + k) ns ++ drop (n + k) ns ≡ take m ns ++ drop n ns
-cut_on ns m n k e =
-    ap (λ j. take (j + k) ns ++ drop (n + k) ns) e ∙ take-append-drop (n + k) ns ∙ sym (take-append-drop n ns) ∙ ap (λ j. take j ns ++ drop n ns) (sym e)
-
-pub sound_along : (b : Inside) (k : ℕ) → IsSound b → b.have_output ≡ true → b.out_len ≡ b.idx → b.idx + k ≤ length b.info.items → b.out_len + k ≤ b.max_len
-    → IsSound (record b { out_len = b.out_len + k; idx = b.idx + k })
-sound_along b k s h e within room =
-    let ns : List ℕ = known_clusters b.order.lent (clusters b.info.items) in
-    let before : HasOrder b.order.known (take b.out_len ns ++ drop b.idx ns) = rw h at s.ordered in
-    record {
-      cursor = within;
-      opened = omega (arith, s.opened);
-      unopened = s.unopened;
-      input_within = s.input_within;
-      output_within = rw h room;
-      out_len = rw h (omega (arith, e));
-      together = s.together;
-      placed = s.placed;
-      counted = s.counted;
-      cleared = s.cleared;
-      ordered = rw h (subst (HasOrder b.order.known) (sym (cut_on ns b.out_len b.idx k e)) before);
-    }
-
--- glyphs that went back: those that were put where nothing was read no longer count as opened
-taken_back : (idx gap front i : ℕ) → gap ≤ idx → front ≤ idx → i ≤ front → idx - (front - i) - min gap (idx - (front - i)) ≡ idx - gap + i - front
-taken_back idx gap front i opened ordered le = grind (arith, nat_tests, common_steps, opened, ordered, le)
-
-pub backed_view : (b : Inside) (info : Vec hb_glyph_info_t) (order : ClusterOrder) (i gap : ℕ) → b.have_output ≡ true → b.gap ≤ b.idx → b.out_len ≤ b.idx → length (take b.out_len b.info.items) ≡ b.out_len → i ≤ b.out_len → gap ≡ min b.gap (b.idx - (b.out_len - i))
-    → take i info.items ≡ take i b.info.items → drop (b.idx - (b.out_len - i)) info.items ≡ drop i (take b.out_len b.info.items) ++ drop b.idx b.info.items
-    → sides_of (record b { info = info; out_len = i; idx = b.idx - (b.out_len - i); gap = gap; order = order }) ≡ after_move_to i (sides_of b)
-backed_view b info order i gap h opened ordered long le least out in_ =
-    let behind = take b.out_len b.info.items in
-    let ahead = drop b.idx b.info.items in
-    let read : b.idx - (b.out_len - i) - gap ≡ b.idx - b.gap + i - length behind = ap (λ n. b.idx - (b.out_len - i) - n) least ∙ taken_back b.idx b.gap b.out_len i opened ordered le ∙ ap (λ n. b.idx - b.gap + i - n) (sym long) in
-    let short : i ≤ length behind = omega (arith, le, long) in
-    let same : take i b.info.items ≡ take i behind = sym (take-take i b.out_len b.info.items le) in
-    rw (h, out, in_, same, take-append-le i behind ahead short, drop-append-le i behind ahead short, read) refl
-
 pub backed_sound : (b : Inside) (info : Vec hb_glyph_info_t) (order : ClusterOrder) (i gap : ℕ) → IsSound b → b.have_output ≡ true → i ≤ b.out_len → gap ≡ min b.gap (b.idx - (b.out_len - i)) → length (drop b.idx b.info.items) + (length (take b.out_len b.info.items) - i) ≤ b.max_len
     → length info.items ≡ length b.info.items → order.lent ≡ None → HasOrder order.known (clusters (take i info.items) ++ clusters (drop (b.idx - (b.out_len - i)) info.items))
     → IsSound (record b { info = info; out_len = i; idx = b.idx - (b.out_len - i); gap = gap; order = order })
@@ -208,12 +164,6 @@ order_backed o gs new front idx i at le out in_ h =
     let same : take i new ≡ take i (take front gs) = out ∙ sym (take-take i front gs le) in
     order_same o (take front gs) (drop idx gs) (take i new) (drop at new)
     (ap (λ xs. xs ++ drop at new) same ∙ ap (λ xs. take i (take front gs) ++ xs) in_ ∙ sym (append_assoc (take i (take front gs)) (drop i (take front gs)) (drop idx gs)) ∙ ap (λ xs. xs ++ drop idx gs) (take-append-drop i (take front gs))) h
-
--- one list of both
-pub joined_view : (b : Inside) (info : Vec hb_glyph_info_t) (positions : Vec GlyphPosition) (order : ClusterOrder) (placed : Bool) → b.have_output ≡ true → info.items ≡ take b.out_len b.info.items ++ drop b.idx b.info.items
-    → positions.items ≡ zero_positions (length info.items)
-    → sides_of (record b { info = info; pos = positions; is_placed = placed; idx = 0; gap = 0; have_output = false; is_apart = false; order = order }) ≡ after_sync (sides_of b)
-joined_view b info positions order placed h i p = rw (h, p, i) refl
 
 pub order_joined : (o : KnownOrder) (gs new : List hb_glyph_info_t) (front idx : ℕ) → new ≡ take front gs ++ drop idx gs → HasOrder o (clusters (take front gs) ++ clusters (drop idx gs)) → HasOrder o (clusters new)
 order_joined o gs new front idx e h = subst (HasOrder o) (sym (map-append (λ (g : hb_glyph_info_t). g.cluster) (take front gs) (drop idx gs)) ∙ ap clusters (sym e)) h
@@ -265,24 +215,9 @@ copies_view b info front n apart h left long o i =
     let read : b.idx - b.gap + 0 ≡ b.idx - b.gap = omega arith in
     rw (h, left ∙ ap (λ k. apart || nat_lt k front) read ∙ ap (λ k. apart || nat_lt (b.idx - b.gap) k) count, o, i) refl
 
--- a glyph that was put after the output
-pub put_view : (b : Inside) (info : Vec hb_glyph_info_t) (order : ClusterOrder) (g : hb_glyph_info_t) (apart : Bool) → b.have_output ≡ true → b.is_apart ≡ (apart || nat_lt (b.idx - b.gap + 0) (b.out_len + 1)) → length (take b.out_len b.info.items) ≡ b.out_len
-    → take (b.out_len + 1) info.items ≡ take b.out_len b.info.items ++ g ∷ [] → drop b.idx info.items ≡ drop b.idx b.info.items
-    → sides_of (record b { info = info; out_len = b.out_len + 1; order = order }) ≡ with_output_info g (record (sides_of b) { is_apart = apart })
-put_view b info order g apart h left long o i =
-    let count : b.out_len + 1 ≡ length (take b.out_len b.info.items ++ g ∷ []) = sym (length-append (take b.out_len b.info.items) (g ∷ []) ∙ ap (λ k. k + 1) long) in
-    let read : b.idx - b.gap + 0 ≡ b.idx - b.gap = omega arith in
-    rw (h, left ∙ ap (λ k. apart || nat_lt k (b.out_len + 1)) read ∙ ap (λ k. apart || nat_lt (b.idx - b.gap) k) count, o, i) refl
-
 pub order_put : (o : KnownOrder) (front back new : List hb_glyph_info_t) (g : hb_glyph_info_t) → new ≡ front ++ g ∷ [] → HasOrder o (clusters front ++ g.cluster ∷ clusters back) → HasOrder o (clusters new ++ clusters back)
 order_put o front back new g e h =
     subst (HasOrder o) (sym (ap (λ ns. ns ++ clusters back) (ap clusters e ∙ map-append (λ (k : hb_glyph_info_t). k.cluster) front (g ∷ [])) ∙ append_assoc (clusters front) (g.cluster ∷ []) (clusters back))) h
-
--- a glyph that passed under another number
-pub numbered_view : (b : Inside) (info : Vec hb_glyph_info_t) (order : ClusterOrder) (n : ℕ) (g d : hb_glyph_info_t) → b.have_output ≡ true → b.gap ≤ b.idx → b.idx < length b.info.items → g ≡ get_or b.info.items b.idx d
-    → take (b.out_len + 1) info.items ≡ take b.out_len b.info.items ++ glyph_numbered g n ∷ [] → drop (b.idx + 1) info.items ≡ drop (b.idx + 1) b.info.items
-    → sides_of (record b { info = info; out_len = b.out_len + 1; idx = b.idx + 1; order = order }) ≡ with_replaced_glyph n (sides_of b)
-numbered_view b info order n g d h le lt is o i = let read = later b.idx b.gap 1 le in rw (h, o, i, read, ← drop-drop 1 b.idx b.info.items, take_one b.info.items b.idx d lt, is) refl
 
 pub order_numbered : (o : KnownOrder) (gs new : List hb_glyph_info_t) (front idx : ℕ) (g d : hb_glyph_info_t) → idx < length gs → g.cluster ≡ (get_or gs idx d).cluster → take (front + 1) new ≡ take front gs ++ g ∷ [] → drop (idx + 1) new ≡ drop (idx + 1) gs
     → HasOrder o (clusters (take front gs) ++ clusters (drop idx gs)) → HasOrder o (clusters (take (front + 1) new) ++ clusters (drop (idx + 1) new))

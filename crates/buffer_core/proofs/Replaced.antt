@@ -47,10 +47,6 @@ replaced_items taken numbers s =
     handed_items (take taken (drop (length s.behind) gs)) put ∙ ap strip (all_copied_merged taken numbers s) ∙ strip_replaced (length s.behind) taken numbers gs
     ∙ ap (items_replaced (length s.behind) taken numbers) (strip_merged_at s.level (length s.behind) (length s.behind + taken) (all_glyphs s) (omega arith))
 
-length_copied : (o : Option hb_glyph_info_t) (numbers : List ℕ) → length (numbered_copies glyph_numbered o numbers) ≤ length numbers
-length_copied None numbers = omega arith
-length_copied (Some g) numbers = omega (arith, length-map numbers (glyph_numbered g))
-
 no_glyph : (gs hs : List hb_glyph_info_t) → length gs ≡ 0 → length hs ≡ 0 → or (first_of gs) (last_of hs) ≡ None
 no_glyph [] [] e d = refl
 no_glyph [] (h ∷ hs) e d = cc
@@ -59,20 +55,3 @@ no_glyph (g ∷ gs) hs e d = cc
 or_cases : (s t : Bool) → (s || t) ≡ true → (s ≡ true) ⊎ (t ≡ true)
 or_cases true t e = inl refl
 or_cases false t e = inr e
-
--- the output with its copies is within the limit
-pub replaced_within : (max_len n : ℕ) (behind ahead new_behind new_ahead : List hb_glyph_info_t) (numbers : List ℕ) → n ≡ length numbers → ((length (behind ++ ahead) == 0) || nat_le (length behind + n) max_len) ≡ true
-    → length new_behind ≡ length behind → length new_ahead ≡ length ahead → length behind ≤ max_len
-    → length (new_behind ++ numbered_copies glyph_numbered (or (first_of new_ahead) (last_of new_behind)) numbers) ≤ max_len
-replaced_within max_len n behind ahead new_behind new_ahead numbers given fits bl al le = elim (or_cases (length (behind ++ ahead) == 0) (nat_le (length behind + n) max_len) fits) [
-  | inl none ↦
-      let zero_all : length (behind ++ ahead) ≡ 0 = grind (arith, nat_tests, common_steps, none) in
-      let sides = length-append behind ahead in
-      let model = no_glyph new_ahead new_behind (omega (arith, zero_all, sides, al)) (omega (arith, zero_all, sides, bl)) in
-      rw (model, append-nil new_behind, bl) le
-  | inr room ↦
-      let fit : length behind + n ≤ max_len = grind (arith, nat_tests, room) in
-      let new = length-append new_behind (numbered_copies glyph_numbered (or (first_of new_ahead) (last_of new_behind)) numbers) in
-      let few = length_copied (or (first_of new_ahead) (last_of new_behind)) numbers in
-      omega (arith, fit, new, few, bl, given)
-]

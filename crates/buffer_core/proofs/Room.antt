@@ -3,7 +3,7 @@ use Rattle.std.proofs.Common.{ℕ, ◌≡◌, ◌≤◌, ◌<◌, ◌+◌, ◌&&
 use Rattle.std.proofs.lemmas.Bool.Decides.{nat_tests}
 use Rattle.std.proofs.lemmas.List.{length-append, length-drop}
 use Rattle.buffer_glyphs.specs.declared.info.hb_glyph_info_t.{hb_glyph_info_t}
-use Rattle.buffer_glyphs.specs.Lists.{take_one}
+use Rattle.buffer_glyphs.proofs.Lists.{take_one}
 
 -- an element is there
 pub some_ahead : (xs : List hb_glyph_info_t) (n : ℕ) → 0 < length (drop n xs) → n < length xs

@@ -7,7 +7,7 @@ use Rattle.buffer_lists.specs.declared.order.ClusterOrder.{ClusterOrder}
 use Rattle.buffer_core.specs.declared.buffer.hb_buffer_t.TheInside.{Inside}
 use Rattle.buffer_core.specs.Inside.{sides_of, IsSound}
 use Rattle.buffer_core.specs.Moving.{with_output_moved, with_range_moved}
-use Rattle.buffer_core.specs.RangeMoves.{moved_front, moved_length}
+use Rattle.buffer_core.proofs.RangeMoves.{moved_front, moved_length}
 use Rattle.buffer_core.proofs.Changed.{front_before}
 
 -- where a list is cut after such a range

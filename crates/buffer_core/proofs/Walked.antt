@@ -8,7 +8,7 @@ use Rattle.buffer_glyphs.specs.declared.info.hb_glyph_info_t.{hb_glyph_info_t as
 use Rattle.buffer_glyphs.specs.Items.{Position, clusters}
 use Rattle.buffer_glyphs.specs.Deleting.{deletion_marks, sides_after_deletion}
 use Rattle.buffer_lists.specs.DeletionWalk.{DeletionState, many_steps, with_glyph, without_glyph}
-use Rattle.buffer_lists.specs.Lemmas.KeptItems.{back_length}
+use Rattle.buffer_lists.proofs.Lemmas.KeptItems.{back_length}
 use Rattle.buffer_core.specs.Grouping.{after_walk, with_deleted}
 use Rattle.buffer_core.specs.Laws.{DeletesAsWalk}
 use Rattle.buffer_core.specs.Merging.{with_has_glyph_flags}

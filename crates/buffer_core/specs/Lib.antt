@@ -15,4 +15,3 @@ pub mod Laws
 pub mod Graphemes
 pub mod Readings
 pub mod Steps
-pub mod RangeMoves

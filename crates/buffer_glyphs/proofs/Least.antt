@@ -261,7 +261,7 @@ keeps_least (e ∷ es) falls ns k g o l some =
     (record { among = event_has_least e falls k ns g.0 o l left; below = λ n h. l.below n (event_keeps_numbers e ns n h) })
     some
 
-in_order : (falls : Bool) (ns : List ℕ) → IsInOrder falls ns → IsOrdered ns
+pub in_order : (falls : Bool) (ns : List ℕ) → IsInOrder falls ns → IsOrdered ns
 in_order false ns h = inl h
 in_order true ns h = inr h
 

@@ -9,3 +9,7 @@ pub mod Across
 pub mod EndRuns
 pub mod FirstDeleted
 pub mod RunFlags
+pub mod Deleted
+pub mod DeletedOrigins
+pub mod Lists
+pub mod Merging

@@ -13,7 +13,7 @@ use Rattle.buffer_glyphs.specs.Levels.{IsMonotone}
 use Rattle.buffer_glyphs.specs.Merges.{numbers_merged_at}
 use Rattle.buffer_glyphs.specs.Lemmas.Deletions.{deletion_is_event, last_is, no_last}
 use Rattle.buffer_glyphs.specs.Lemmas.Parts.{event_keeps_order}
-use Rattle.buffer_glyphs.specs.Deleted.{clusters_deleted}
+use Rattle.buffer_glyphs.proofs.Deleted.{clusters_deleted}
 use Rattle.buffer_glyphs.specs.Deleting.{DeletionSides, end_recast, glyphs_deleted, deletion_marks, Deletes}
 
 pub has_last : (ns : List ℕ) → 0 < length ns → (p : ℕ) × (last_of ns ≡ Some p)

@@ -14,9 +14,5 @@ pub mod Glyphs
 pub mod Replacements
 pub mod Deletions
 pub mod Laws
-pub mod Lists
-pub mod Merging
 pub mod Deleting
-pub mod Deleted
-pub mod DeletedOrigins
 pub mod Rewriting

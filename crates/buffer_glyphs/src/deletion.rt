@@ -57,7 +57,7 @@ pub fn end_run(glyphs: &[hb_glyph_info_t], cluster: u32) -> usize
     at
 }
 
-#[tactic(auto, using(crate::specs::Lists::map_step))]
+#[tactic(auto, using(crate::proofs::Lists::map_step))]
 fn recast_all(glyphs: &mut [hb_glyph_info_t], glyph: &hb_glyph_info_t)
     ensures { glyphs.new ≡ map (recast glyph.now.cluster glyph.now.mask) glyphs.old }
 {

@@ -103,7 +103,7 @@ fn has_other_cluster(glyphs: &[hb_glyph_info_t], cluster: u32) -> bool
         .any(|other| other != cluster)
 }
 
-#[tactic(auto, using(crate::specs::Lists::map_step))]
+#[tactic(auto, using(crate::proofs::Lists::map_step))]
 fn mark_outside(glyphs: &mut [hb_glyph_info_t], cluster: u32, flags: hb_mask_t)
     ensures { glyphs.new ≡ map (marked_outside flags cluster) glyphs.old }
 {
@@ -136,7 +136,7 @@ pub fn flag_within(glyphs: &mut [hb_glyph_info_t], start: usize, end: usize, fla
 }
 
 /// Sets flags on all glyphs.
-#[tactic(auto, using(crate::specs::Lists::map_step))]
+#[tactic(auto, using(crate::proofs::Lists::map_step))]
 pub fn flag_all(glyphs: &mut [hb_glyph_info_t], flags: hb_mask_t)
     ensures { glyphs.new ≡ map (glyph_flagged flags) glyphs.old }
 {

@@ -58,7 +58,7 @@ fn merged_glyph(glyph: hb_glyph_info_t, range: &[hb_glyph_info_t], low: u32) -> 
 }
 
 /// Renumbers the clusters that occur in `range` to the least of them, `low`, wherever they are among the glyphs.
-#[tactic(auto, using(crate::specs::Lists::map_step))]
+#[tactic(auto, using(crate::proofs::Lists::map_step))]
 pub fn spread(glyphs: &mut [hb_glyph_info_t], range: &[hb_glyph_info_t], low: u32)
     requires { low ≡ least_number (clusters range.now) }
     ensures { glyphs.new ≡ glyphs_merged (clusters range.now) glyphs.old }
@@ -83,7 +83,7 @@ pub fn spread_within(glyphs: &mut [hb_glyph_info_t], start: usize, end: usize)
     set_clusters(range, low);
 }
 
-#[tactic(auto, using(crate::specs::Lists::map_step))]
+#[tactic(auto, using(crate::proofs::Lists::map_step))]
 pub(crate) fn set_clusters(glyphs: &mut [hb_glyph_info_t], cluster: u32)
     ensures { glyphs.new ≡ map (in_cluster cluster) glyphs.old }
 {

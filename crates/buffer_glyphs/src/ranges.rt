@@ -15,7 +15,7 @@ use crate::runs::merge_within;
 /// the others those outside the least cluster are flagged as unsafe to break and to concat. Answers whether a glyph was
 /// flagged. Where all clusters are known to be in order it costs the range and the runs of glyphs at its
 /// ends.
-#[tactic(auto, using(crate::specs::Merging::order_merged, crate::specs::Merging::direction_merged))]
+#[tactic(auto, using(crate::proofs::Merging::order_merged, crate::proofs::Merging::direction_merged))]
 pub fn merge_range(
     glyphs: &mut [hb_glyph_info_t],
     level: BufferClusterLevel,

@@ -15,7 +15,7 @@ use Rattle.buffer_glyphs.specs.declared.level.BufferClusterLevel.{BufferClusterL
 use Rattle.buffer_glyphs.specs.declared.level.BufferClusterLevel.TheVariants.{MonotoneGraphemes, MonotoneCharacters, Characters, Graphemes}
 use Rattle.buffer_glyphs.specs.Levels.{IsMonotone}
 use Rattle.std.specs.List.{list_all}
-use Rattle.buffer_glyphs.specs.Merging.{direction_merged}
+use Rattle.buffer_glyphs.proofs.Merging.{direction_merged}
 use Rattle.buffer_glyphs.specs.Deleting.{IsEndRun}
 use Rattle.buffer_glyphs.specs.Lemmas.Ends.{from_first}
 use Rattle.buffer_glyphs.specs.Lemmas.Glyphs.{without_flags_again, cut_out, range_clusters, cluster_in_cluster, same_cluster}
@@ -100,7 +100,7 @@ merged_parts x xs f r w b is falling other same =
     map-append e (f ++ (r ++ w)) b ∙ ap (λ hs. hs ++ gone m b) (map-append e f (r ++ w) ∙ ap (λ hs. hs ++ gone m (r ++ w)) front ∙ ap (λ hs. f ++ hs) (map-append e r w ∙ ap (λ hs. hs ++ gone m w) run ∙ ap (λ hs. map (in_cluster z) r ++ hs) mid ∙ sym (map-append (in_cluster z) r w)))
     ∙ ap (λ hs. f ++ map (in_cluster z) (r ++ w) ++ hs) back
 
-take_sum : {X : Type 0} (m n : ℕ) (xs : List X) → take (m + n) xs ≡ take m xs ++ take n (drop m xs)
+pub take_sum : {X : Type 0} (m n : ℕ) (xs : List X) → take (m + n) xs ≡ take m xs ++ take n (drop m xs)
 take_sum zero n xs = let e : 0 + n ≡ n = omega arith in ap (λ k. take k xs) e
 take_sum (suc m) zero [] = let e : suc m + 0 ≡ suc (m + 0) = omega arith in rw e refl
 take_sum (suc m) (suc n) [] = let e : suc m + suc n ≡ suc (m + suc n) = omega arith in rw e refl

@@ -13,7 +13,7 @@ use Rattle.buffer_lists.specs.declared.due.falling.DueRange.{DueRange}
 use Rattle.buffer_glyphs.specs.Levels.{IsMonotone}
 use Rattle.buffer_lists.specs.Turning.{range_reversed}
 use Rattle.buffer_lists.specs.Falling.{with_range_in_cluster, IsDueBefore, IsRound}
-use Rattle.buffer_lists.specs.Lemmas.Turned.{part_front, part_after, clusters_part}
+use Rattle.buffer_lists.proofs.Lemmas.Turned.{part_front, part_after, clusters_part}
 use Rattle.buffer_lists.proofs.Carried.{two_ranges, take_to, drop_beyond, take_carried, drop_carried, same_range, front_long}
 use Rattle.buffer_glyphs.specs.Lemmas.EventParts.{map-reverse}
 

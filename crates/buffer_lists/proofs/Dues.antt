@@ -14,7 +14,7 @@ use Rattle.buffer_glyphs.specs.Lemmas.Ends.{to_last}
 use Rattle.buffer_glyphs.specs.Lemmas.Merges.{chain_left, chain_across}
 use Rattle.buffer_glyphs.specs.Lemmas.Deletions.{last_is}
 use Rattle.buffer_glyphs.specs.Deleting.{recast, end_recast_from, end_recast}
-use Rattle.buffer_glyphs.specs.Deleted.{recast_cluster, flags_put}
+use Rattle.buffer_glyphs.proofs.Deleted.{recast_cluster, flags_put}
 use Rattle.buffer_lists.specs.DeletionWalk.{IsDue, settled_glyphs}
 use Rattle.buffer_glyphs.proofs.OneDeleted.{has_last}
 use Rattle.buffer_lists.proofs.Walking.{last_recast}

@@ -4,7 +4,7 @@ use Rattle.std.proofs.Common.{ℕ, ◌≡◌, ◌≤◌, ◌<◌, ◌+◌, ◌-�
 use Rattle.std.proofs.lemmas.List.{length-append, length-take-le, take-append-drop, take_at, drop-drop, drop_at}
 use Rattle.std.proofs.Math.Seq.{drop-append-add}
 
-none : {X : Type 0} (m : ℕ) (xs : List X) → xs ≡ [] → take m xs ≡ []
+pub none : {X : Type 0} (m : ℕ) (xs : List X) → xs ≡ [] → take m xs ≡ []
 none zero xs e = refl
 none (suc m) [] e = refl
 none (suc m) (x ∷ xs) e = cc

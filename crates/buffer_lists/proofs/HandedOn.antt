@@ -23,6 +23,8 @@ use Rattle.buffer_lists.specs.Copies.{with_copies}
 use Rattle.buffer_lists.specs.DeletionWalk.{DeletionState, HasFlags, IsDue, IsWalk, settled_glyphs, walk_at, without_glyph}
 use Rattle.buffer_glyphs.proofs.OneDeleted.{has_last}
 use Rattle.buffer_lists.proofs.Walking.{settled_back, settled_front, settled_length}
+use Rattle.buffer_rows.proofs.Paged.{above_differs as apart_test}
+use Rattle.buffer_glyphs.proofs.DeletedOrigins.{flags_taken}
 
 -- ---- the last of a list
 
@@ -31,16 +33,6 @@ behind a x [] h = cc
 behind a x (b ∷ bs) h = last_beyond a b bs ∙ h
 
 -- ---- a run that took the flags of a glyph
-
-flags_taken : (m n : ℕ) → bit_and (without_flags m + bit_and n 7) 7 ≡ bit_and n 7
-flags_taken m n =
-    let low = and_mask m 3 in
-    let put = and_mask n 3 in
-    let both = and_mask (m - bit_and m 7 + bit_and n 7) 3 in
-    omega (arith, low, put, both)
-
-apart_test : (m n : ℕ) → n < m → (m == n) ≡ false
-apart_test m n lt = grind (arith, common_steps)
 
 equal_test : (m n : ℕ) → m ≡ n → (m == n) ≡ true
 equal_test m n e = grind (arith, common_steps, e)
@@ -83,10 +75,6 @@ recast_flagged d gs bits lt some above has =
 pub due_flagged : (due : Option Glyph) (gs : List Glyph) (bits : ℕ) → bits < 8 → IsDue true due gs → HasFlags due bits → settled_glyphs due gs ≡ with_last_changed (glyph_flagged bits) (settled_glyphs due gs)
 due_flagged None gs bits lt is has = absurd has
 due_flagged (Some d) gs bits lt is has = recast_flagged d gs bits lt is.1 is.2 has
-
-pub due_sure : (in_order : Bool) (due : Option Glyph) (gs : List Glyph) → IsDue in_order due gs → IsDue true due gs
-due_sure in_order None gs is = tt
-due_sure in_order (Some d) gs is = (refl, is.1, is.2)
 
 -- ---- flags on the last that was kept
 
@@ -153,17 +141,6 @@ handed_clusters gs front rest deleted out new n all o e =
     ∙ sym (map-append f front rest) ∙ sym (ap clusters all)
 
 -- ---- one deleted, and its flags handed on
-
-pub passed_handing : (level : Level) (at : ℕ) (w mid v : Walk) (gs hs new : List Glyph) (ps : List Position) (g : Glyph) (back : List Glyph)
-    → walk_at (at + 1) mid hs ps ≡ without_glyph false level (walk_at at w gs ps) g back
-    → settled_glyphs v.due (take v.kept new) ≡ glyphs_handed_before (g ∷ []) (settled_glyphs mid.due (take mid.kept hs))
-    → drop (at + 1) new ≡ glyphs_handed_after (g ∷ []) (last_of (clusters (settled_glyphs mid.due (take mid.kept hs)))) (drop (at + 1) hs)
-    → v.kept ≡ mid.kept → v.marked ≡ mid.marked → walk_at (at + 1) v new ps ≡ without_glyph true level (walk_at at w gs ps) g back
-passed_handing level at w mid v gs hs new ps g back e one two kept marked =
-    let f : DeletionState → DeletionState = λ s. record s { kept = glyphs_handed_before (g ∷ []) s.kept; rest_glyphs = glyphs_handed_after (g ∷ []) (last_of (clusters s.kept)) s.rest_glyphs } in
-    let three : take v.kept ps ≡ take mid.kept ps = ap (λ n. take n ps) kept in
-    let same : walk_at (at + 1) v new ps ≡ f (walk_at (at + 1) mid hs ps) = rw (one, two, three, marked) refl in
-    same ∙ ap f e
 
 pub walk_handing : (in_order : Bool) (at : ℕ) (mid v : Walk) (hs new deleted : List Glyph) → IsWalk in_order at mid hs
     → settled_glyphs v.due (take v.kept new) ≡ glyphs_handed_before deleted (settled_glyphs mid.due (take mid.kept hs))

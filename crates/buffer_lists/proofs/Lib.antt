@@ -16,3 +16,4 @@ pub mod Between
 pub mod Ordered
 pub mod Fronts
 pub mod HandedOn
+pub mod Indices

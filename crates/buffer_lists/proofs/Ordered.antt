@@ -24,21 +24,13 @@ use Rattle.buffer_lists.specs.declared.order.KnownOrder.{KnownOrder}
 use Rattle.buffer_lists.specs.declared.order.KnownOrder.TheVariants.{Unknown, Rising, Falling}
 use Rattle.buffer_lists.specs.Known.{HasOrder, is_known}
 use Rattle.buffer_lists.specs.Copies.{with_copies}
-
-ordered_from : (falls : Bool) (ns : List ℕ) → IsInOrder falls ns → IsOrdered ns
-ordered_from false ns h = inl h
-ordered_from true ns h = inr h
+use Rattle.buffer_glyphs.proofs.Least.{in_order as ordered_from}
+use Rattle.buffer_glyphs.proofs.Merging.{order_kept as merge_order}
 
 pub known_ordered : (o : KnownOrder) (ns : List ℕ) → is_known o ≡ true → HasOrder o ns → IsOrdered ns
 known_ordered Unknown ns e h = cc
 known_ordered Rising ns e h = inl h
 known_ordered Falling ns e h = inr h
-
-merge_order : (falls : Bool) (level : BufferClusterLevel) (from to : ℕ) (ns : List ℕ) → from ≤ to → IsInOrder falls ns → IsInOrder falls (numbers_merged_at level from to ns)
-merge_order falls MonotoneGraphemes from to ns le h = subst (IsInOrder falls) (sym (merge_joins MonotoneGraphemes from to ns le tt (ordered_from falls ns h))) (event_keeps_order (JoinParts from to) falls ns h)
-merge_order falls MonotoneCharacters from to ns le h = subst (IsInOrder falls) (sym (merge_joins MonotoneCharacters from to ns le tt (ordered_from falls ns h))) (event_keeps_order (JoinParts from to) falls ns h)
-merge_order falls Characters from to ns le h = h
-merge_order falls Graphemes from to ns le h = h
 
 order_merged_at : (o : KnownOrder) (level : BufferClusterLevel) (from to : ℕ) (ns : List ℕ) → from ≤ to → HasOrder o ns → HasOrder o (numbers_merged_at level from to ns)
 order_merged_at Unknown level from to ns le h = tt
@@ -57,7 +49,7 @@ order_merged o level i j behind ahead new_behind new_ahead le b a h =
     ∙ map-append f (beside_merged level (range_of i j (clusters ahead)) behind) (glyphs_merged_at level i j ahead) ∙ ap (λ gs. clusters gs ++ clusters (glyphs_merged_at level i j ahead)) (sym b) ∙ ap (λ gs. clusters new_behind ++ clusters gs) (sym a)) after
 
 -- a range within the first of two lists
-stretch_first : (xs ys : List hb_glyph_info_t) (start end : ℕ) → start ≤ end → end ≤ length xs → range_of start end (clusters (xs ++ ys)) ≡ range_of start end (clusters xs)
+pub stretch_first : (xs ys : List hb_glyph_info_t) (start end : ℕ) → start ≤ end → end ≤ length xs → range_of start end (clusters (xs ++ ys)) ≡ range_of start end (clusters xs)
 stretch_first xs ys start end le within =
     let long = length-drop start xs in
     let few : end - start ≤ length (drop start xs) = omega (arith, long) in

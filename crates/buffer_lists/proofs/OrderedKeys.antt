@@ -12,7 +12,7 @@ use Rattle.buffer_rows.proofs.StableSort.{stable_sort_is}
 use Rattle.buffer_glyphs.specs.declared.info.hb_glyph_info_t.{hb_glyph_info_t as Glyph}
 use Rattle.buffer_glyphs.specs.declared.level.BufferClusterLevel.{BufferClusterLevel as Level}
 use Rattle.buffer_lists.specs.declared.sorting.KeyedIndex.{KeyedIndex}
-use Rattle.buffer_lists.specs.Lemmas.Neighbours.{no_glyph}
+use Rattle.buffer_lists.proofs.Lemmas.Neighbours.{no_glyph}
 use Rattle.buffer_lists.specs.Sorting.{keyed_indices_from, indices_by_key, is_seam, SpanMerge, span_merged, spans_merged, range_spanned, range_sorted, glyph_at, put_in_order}
 use Rattle.buffer_lists.proofs.Seams.{keyed_length}
 

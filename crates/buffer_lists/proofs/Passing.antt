@@ -9,7 +9,7 @@ use Rattle.buffer_lists.specs.declared.deletion_within.walk.Walk.{Walk}
 use Rattle.buffer_glyphs.proofs.OneDeleted.{left_clusters, ordered_deleted}
 use Rattle.buffer_glyphs.specs.Deleting.{Deletes}
 use Rattle.buffer_lists.specs.DeletionWalk.{IsDue, IsWalk, DeletionState, whole_walk, many_steps, settled_glyphs, walk_at, walk_step, first_step, with_glyph, without_glyph}
-use Rattle.buffer_lists.specs.Lemmas.Neighbours.{no_glyph}
+use Rattle.buffer_lists.proofs.Lemmas.Neighbours.{no_glyph}
 
 pub passed_without : (level : Level) (at : ℕ) (w v : Walk) (gs new : List Glyph) (ps : List Position) (g : Glyph) (back : List Glyph) (m : Bool)
     → Deletes level (settled_glyphs w.due (take w.kept gs)) (drop at gs) (settled_glyphs v.due (take v.kept new)) (drop (at + 1) new) m → v.kept ≡ w.kept → v.marked ≡ (w.marked || m) → drop at gs ≡ g ∷ back

@@ -9,6 +9,7 @@ use Rattle.buffer_glyphs.specs.Lemmas.Drawn.{IsDrawn, drawn_second, drawn_drop, 
 use Rattle.buffer_glyphs.specs.Lemmas.Parts.{order_drawn}
 use Rattle.buffer_glyphs.specs.Lemmas.Glyphs.{cut_out, range_clusters}
 use Rattle.buffer_glyphs.specs.Lemmas.Merges.{chain_left, chain_right}
+use Rattle.buffer_glyphs.proofs.Joined.{order_second as ahead_known}
 
 -- what is drawn from a list in order is in order
 stays_so : {xs ys : List ℕ} → IsDrawn xs ys → IsOrdered xs → IsOrdered ys
@@ -20,9 +21,6 @@ range_known output input start end o =
     let past = stays_so (drawn_second (clusters output) (drawn_drop start (clusters input))) o in
     let cut = stays_so (drawn_second (clusters output) (drawn_take (end - start) (drop start (clusters input)))) past in
     subst (λ ns. IsOrdered (clusters output ++ ns)) (range_clusters input start end) cut
-
-pub ahead_known : (xs ys : List ℕ) → IsOrdered (xs ++ ys) → IsOrdered ys
-ahead_known xs ys o = elim o [ inl rises ↦ inl (chain_right (λ m n. m ≤ n) xs ys rises) | inr falls ↦ inr (chain_right (λ m n. n ≤ m) xs ys falls) ]
 
 -- a range of the first of two lists is in order before the second
 pub range_ordered : (out : List hb_glyph_info_t) (ns : List ℕ) (start end : ℕ) → start ≤ end → IsOrdered (clusters out ++ ns) → IsOrdered (clusters (slice_range out start end) ++ ns)

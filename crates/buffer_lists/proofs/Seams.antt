@@ -9,7 +9,7 @@ use Rattle.buffer_glyphs.specs.declared.info.hb_glyph_info_t.{hb_glyph_info_t as
 use Rattle.buffer_lists.specs.declared.sorting.KeyedIndex.{KeyedIndex}
 use Rattle.buffer_lists.specs.Laws.{SeamParts}
 use Rattle.buffer_lists.specs.Sorting.{keyed_indices_from, indices_by_key, is_seam}
-use Rattle.buffer_lists.specs.Indices.{all_keyed}
+use Rattle.buffer_lists.proofs.Indices.{all_keyed}
 use Rattle.buffer_lists.specs.Lemmas.KeyOrder.{seam_by_key}
 
 keyed_cut : (k : Glyph → ℕ) (j i : ℕ) (gs : List Glyph) → keyed_indices_from k j gs ≡ keyed_indices_from k j (take i gs) ++ keyed_indices_from k (j + i) (drop i gs)

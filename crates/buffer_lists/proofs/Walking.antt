@@ -11,7 +11,7 @@ use Rattle.buffer_glyphs.specs.Parts.{last_of}
 use Rattle.buffer_glyphs.specs.Deletions.{end_renumbered}
 use Rattle.buffer_glyphs.specs.Lemmas.Drawn.{last_more}
 use Rattle.buffer_glyphs.specs.Deleting.{end_recast}
-use Rattle.buffer_glyphs.specs.Deleted.{end_clusters, end_length}
+use Rattle.buffer_glyphs.proofs.Deleted.{end_clusters, end_length}
 use Rattle.buffer_lists.specs.DeletionWalk.{settled_glyphs}
 use Rattle.buffer_glyphs.proofs.OneDeleted.{has_last}
 

@@ -8,7 +8,6 @@ pub mod Sorting
 pub mod Due
 pub mod Laws
 pub mod Facts
-pub mod Indices
 pub mod Events
 pub mod Flags
 pub mod Known

@@ -74,7 +74,7 @@ pub fn next_grapheme(glyphs: &[hb_glyph_info_t], start: usize) -> usize
 }
 
 /// How many glyphs from the front on are of the syllable.
-#[tactic(auto, using(crate::specs::Lemmas::Neighbours::front_within))]
+#[tactic(auto, using(crate::proofs::Lemmas::Neighbours::front_within))]
 fn front_of_syllable(glyphs: &[hb_glyph_info_t], syllable: u8) -> usize
     ensures front { result ≡ prefix_len (λ g. g.syllable == syllable) glyphs.now }
     ensures within { result ≤ length glyphs.now }
@@ -86,7 +86,7 @@ fn front_of_syllable(glyphs: &[hb_glyph_info_t], syllable: u8) -> usize
 }
 
 /// How many glyphs from the front on are of the cluster.
-#[tactic(auto, using(crate::specs::Lemmas::Neighbours::front_within))]
+#[tactic(auto, using(crate::proofs::Lemmas::Neighbours::front_within))]
 fn front_of_cluster(glyphs: &[hb_glyph_info_t], cluster: u32) -> usize
     ensures front { result ≡ prefix_len (λ g. g.cluster == cluster) glyphs.now }
     ensures within { result ≤ length glyphs.now }
@@ -98,7 +98,7 @@ fn front_of_cluster(glyphs: &[hb_glyph_info_t], cluster: u32) -> usize
 }
 
 /// How many glyphs from the front on continue a grapheme.
-#[tactic(auto, using(crate::specs::Lemmas::Neighbours::front_within))]
+#[tactic(auto, using(crate::proofs::Lemmas::Neighbours::front_within))]
 fn front_of_grapheme(glyphs: &[hb_glyph_info_t]) -> usize
     ensures front { result ≡ prefix_len continues glyphs.now }
     ensures within { result ≤ length glyphs.now }

@@ -2,7 +2,7 @@
 ghost use Rattle.buffer_lists.specs.Laws.{DeletesOneItem, DeletionIsEvent, DeletionsAreEvents, EventsArePlain, GroupsAreAll, GroupsAreEvents, SeamParts, SortIsEvent, TurnsGroups};
 
 /// The deletion of a glyph is the event `Delete`.
-#[tactic(auto, using(buffer_glyphs::specs::DeletedOrigins::deletion_after_front))]
+#[tactic(auto, using(buffer_glyphs::proofs::DeletedOrigins::deletion_after_front))]
 pub fn law_list_deletion_is_event()
     ensures { DeletionIsEvent }
 {}
@@ -28,13 +28,13 @@ pub fn law_seam_parts()
 {}
 
 /// Deletions in place are events, one for each deleted glyph.
-#[tactic(auto, using(crate::specs::Lemmas::DeletedEvents::deletions_are_events))]
+#[tactic(auto, using(crate::proofs::Lemmas::DeletedEvents::deletions_are_events))]
 pub fn law_deletions_are_events()
     ensures { DeletionsAreEvents }
 {}
 
 /// A reversal of groups is a list of events, one for each group and one for the list.
-#[tactic(auto, using(crate::specs::Lemmas::ReversedEvents::groups_are_events))]
+#[tactic(auto, using(crate::proofs::Lemmas::ReversedEvents::groups_are_events))]
 pub fn law_groups_are_events()
     ensures { GroupsAreEvents }
 {}

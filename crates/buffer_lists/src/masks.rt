@@ -6,7 +6,7 @@ use buffer_glyphs::info::{hb_glyph_info_t, hb_mask_t};
 
 /// Sets the bits under `mask` to those of the value, on each glyph whose cluster is from `start` up to before `end`, or
 /// on every glyph where these are 0 and `u32::MAX`.
-#[tactic(auto, using(buffer_glyphs::specs::Lists::map_step))]
+#[tactic(auto, using(buffer_glyphs::proofs::Lists::map_step))]
 pub fn set_masks(
     glyphs: &mut [hb_glyph_info_t],
     value: hb_mask_t,
@@ -48,7 +48,7 @@ fn is_within(cluster: u32, start: u32, end: u32) -> bool
 }
 
 /// Sets each glyph's mask.
-#[tactic(auto, using(buffer_glyphs::specs::Lists::map_step))]
+#[tactic(auto, using(buffer_glyphs::proofs::Lists::map_step))]
 pub fn reset_masks(glyphs: &mut [hb_glyph_info_t], mask: hb_mask_t)
     ensures { glyphs.new ≡ map (glyph_masked mask) glyphs.old }
 {

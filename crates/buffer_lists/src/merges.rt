@@ -15,7 +15,7 @@ use buffer_glyphs::runs::{merge_after, merge_beside, merge_within};
 
 /// Merges a range of the input on both lists; answers whether a glyph was flagged, and what is known of the order after
 /// it. Where the order is not known, a walk finds it before; where there is none, each glyph is compared with the range.
-#[tactic(auto, using(buffer_glyphs::specs::Lemmas::Glyphs::range_clusters, crate::proofs::Ranges::range_known, crate::proofs::Ranges::ahead_known, crate::proofs::Ordered::known_ordered, crate::proofs::Ordered::order_merged))]
+#[tactic(auto, using(buffer_glyphs::specs::Lemmas::Glyphs::range_clusters, crate::proofs::Ranges::range_known, buffer_glyphs::proofs::Joined::order_second, crate::proofs::Ordered::known_ordered, crate::proofs::Ordered::order_merged))]
 pub fn merge_input(
     output: &mut [hb_glyph_info_t],
     input: &mut [hb_glyph_info_t],

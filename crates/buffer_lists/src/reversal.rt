@@ -116,7 +116,7 @@ fn merge_group(
 }
 
 /// Reverses the items from `start` up to before `end`.
-#[tactic(auto, using(crate::specs::Lemmas::Turned::turned_put))]
+#[tactic(auto, using(crate::proofs::Lemmas::Turned::turned_put))]
 fn turn_part<T>(items: &mut [T], start: usize, end: usize)
     requires ordered { start ≤ end }
     requires within { end ≤ length items.old }

@@ -4,7 +4,7 @@ use Rattle.buffer_glyphs.specs.Items.{Item, item_masked}
 use Rattle.buffer_core.specs.Readings.{always}
 use Rattle.buffer_stages.specs.Stages.{with_items_mapped}
 use Rattle.buffer_parts.specs.Breaks.Divisible.{IsFreelyDivisible}
-use Rattle.buffer_parts.specs.Breaks.Lemmas.Division.{items_are_divisible}
+use Rattle.buffer_parts.proofs.BreakLemmas.Division.{items_are_divisible}
 
 -- masks that are set on each item
 masks_divide : (falls : Bool) (m : ℕ) → IsFreelyDivisible falls falls (always (with_items_mapped (item_masked m))) (always (with_items_mapped (item_masked m))) (always (with_items_mapped (item_masked m)))

@@ -1,4 +1,3 @@
-pub mod Lemmas
 pub mod Unsafe
 pub mod Lossless
 pub mod Bound

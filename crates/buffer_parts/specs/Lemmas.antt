@@ -12,8 +12,6 @@ pub mod Keeping
 pub mod Plainly
 pub mod Alike
 pub mod Counting
-pub mod Both
 pub mod Stages
-pub mod Rules
 pub mod Steady
 pub mod PlainStages

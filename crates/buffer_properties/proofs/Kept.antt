@@ -113,7 +113,7 @@ pub number_found : (c : Normalizer) (x : Item) (o : Option ℕ) → (with_found_
 number_found c x None = number_with_space c x (space_glyph c x)
 number_found c x (Some g) = refl
 
-space_is_no_mark : (x : Item) → is_space x ≡ true → is_mark x ≡ false
+pub space_is_no_mark : (x : Item) → is_space x ≡ true → is_mark x ≡ false
 space_is_no_mark x h = let e : category_of x ≡ 29 = eqb-true (category_of x) 29 h in ap is_mark_number e
 
 class_with_space : (c : Normalizer) (x : Item) (o : Option ℕ) → space_glyph c x ≡ o → mark_class (with_glyph_of_space c x o) ≡ mark_class x

@@ -6,7 +6,7 @@ use Rattle.std.proofs.lemmas.List.{append-nil, length-append, length_push}
 use Rattle.std.specs.List.{flat_map}
 use Rattle.buffer_rows.specs.KeyOrder.{of_key, by_key, key_bound}
 use Rattle.buffer_unicode_tables.specs.ClassOrder.{run_order, order_after, class_order}
-use Rattle.buffer_unicode_tables.proofs.Orders.{IsRun}
+use Rattle.buffer_unicode_tables.proofs.Orders.{IsRun, run_of_class}
 use Rattle.buffer_glyphs.specs.Items.{Item}
 use Rattle.buffer_glyphs.specs.Rewriting.{items, Arrangement, eventless_arrangement}
 use Rattle.buffer_properties.specs.Characters.{mark_class}
@@ -67,14 +67,6 @@ pub run_append : {X : Type 0} (class : X → ℕ) (xs ys : List X) → IsRun cla
 run_append class [] ys r s = s
 run_append class (x ∷ xs) ys r s = (r.0, run_append class xs ys r.1 s)
 
-pub run_of_class : {X : Type 0} (class : X → ℕ) (c : ℕ) (run : List X) → IsRun class run → IsRun class (of_key class c run)
-run_of_class class c [] r = tt
-run_of_class class c (x ∷ xs) r =
-    elim (class x == c) as (λ b. IsRun class (if b then x ∷ of_key class c xs else of_key class c xs)) [
-      | true ↦ (r.0, run_of_class class c xs r.1)
-      | false ↦ run_of_class class c xs r.1
-    ]
-
 run_by_class : {X : Type 0} (class : X → ℕ) (n : ℕ) (run : List X) → IsRun class run → IsRun class (by_key class n run)
 run_by_class class zero run r = tt
 run_by_class class (suc n) run r = run_append class (by_key class n run) (of_key class n run) (run_by_class class n run r) (run_of_class class n run r)
@@ -131,10 +123,6 @@ run_items reorders (x ∷ xs) h =
     let short : nat_le (length (x ∷ xs)) 32 ≡ true = le-leb _ _ h in
     let some : length (run_order mark_class (x ∷ xs)) ≢ 0 = omega (arith, length_run_order mark_class (x ∷ xs)) in
     ap items (cond-true _ _ _ short) ∙ after_some reorders (run_order mark_class (x ∷ xs)) some
-
-first_short : {X : Type 0} (class : X → ℕ) (met : ℕ) (xs : List X) → HasShortRuns class met xs → met ≤ 32
-first_short class met [] h = h
-first_short class met (x ∷ xs) h = h.0
 
 items_of_runs : (reorders : List Item → Arrangement) (run xs : List Item) → HasShortRuns mark_class (length run) xs
     → flat_map items (arranged_runs reorders run xs) ≡ by_runs mark_class (λ s. after reorders (run_order mark_class s)) run xs

@@ -22,9 +22,7 @@ use Rattle.buffer_properties.proofs.Expanded.{items_in_turn}
 use Rattle.buffer_properties.proofs.Kept.{alone_is, preferred_is, mapped_is, number_found, characters_of_pieces, AreOfTables, IsKept, groups_keep}
 use Rattle.buffer_properties.proofs.Preserved.{text_of_tables, characters_of_text, expanded_keeps}
 use Rattle.buffer_properties.proofs.Runs.{run_append}
-
-full_append : (t : Tables) (xs ys : List ℕ) → full_text t (xs ++ ys) ≡ full_text t xs ++ full_text t ys
-full_append t xs ys = flat_map-append (full_expansion t) xs ys
+use Rattle.buffer_unicode_tables.proofs.Steps.{full_append}
 
 full_alone : (t : Tables) (u : ℕ) → full_text t (u ∷ []) ≡ full_expansion t u
 full_alone t u = append-nil (full_expansion t u)
@@ -155,7 +153,7 @@ short_after class met n (z ∷ zs) xs r le h =
     let off : (class z == 0) ≡ false = ne_eqb (class z) 0 r.0 in
     short_after class (met + 1) n zs xs r.1 (omega (arith, le)) (rw off at h.1)
 
-short_first : (class : ℕ → ℕ) (met : ℕ) (xs : List ℕ) → HasShortRuns class met xs → met ≤ 32
+pub short_first : (class : ℕ → ℕ) (met : ℕ) (xs : List ℕ) → HasShortRuns class met xs → met ≤ 32
 short_first class met [] h = h
 short_first class met (x ∷ xs) h = h.0
 

@@ -141,14 +141,14 @@ rising_order run (x ∷ xs) =
       | inr n ↦ subst (IsRisingAfter 0) (sym (cond-false _ _ _ (ne_eqb (mark_class x) 0 n))) (rising_order (run ++ x ∷ []) xs)
     ]
 
-low_bits_stay : (p q r : ℕ) → r ≡ q * 64 → r ≤ p → (p - r) % 32 ≡ p % 32
+pub low_bits_stay : (p q r : ℕ) → r ≡ q * 64 → r ≤ p → (p - r) % 32 ≡ p % 32
 low_bits_stay p q r e le = omega (arith, e, le)
 
-bit_within : (p : ℕ) → bit_and p 64 ≤ p
+pub bit_within : (p : ℕ) → bit_and p 64 ≤ p
 bit_within p = let e = and_high p 1 6 in omega (arith, e)
 
 -- to show a joiner changes no category
-category_of_shown : (p : ℕ) → bit_and (without_bits 0x40 p) 0x1F ≡ bit_and p 0x1F
+pub category_of_shown : (p : ℕ) → bit_and (without_bits 0x40 p) 0x1F ≡ bit_and p 0x1F
 category_of_shown p =
     let e : bit_and p 64 ≡ (p / 64 % 2) * 64 = and_high p 1 6 in
     and_mask (without_bits 0x40 p) 5 ∙ (low_bits_stay p (p / 64 % 2) (bit_and p 64) e (bit_within p) ∙ sym (and_mask p 5))

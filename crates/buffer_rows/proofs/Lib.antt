@@ -3,3 +3,4 @@ pub mod Paged
 pub mod DenseSlots
 pub mod Passes
 pub mod StableSort
+pub mod Orders

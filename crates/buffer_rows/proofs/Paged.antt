@@ -17,7 +17,7 @@ lower a b first le h = grind (arith, nat_tests)
 pub below_differs : (a k : ℕ) → a < k → (a == k) ≡ false
 below_differs a k h = grind (arith, nat_tests)
 
-above_differs : (a k : ℕ) → k < a → (a == k) ≡ false
+pub above_differs : (a k : ℕ) → k < a → (a == k) ≡ false
 above_differs a k h = grind (arith, nat_tests)
 
 module _ {R : Type 0} (number : R → ℕ) where
@@ -91,10 +91,10 @@ strictly_rises number (r ∷ rows) (suc i) (suc j) d h below lt = strictly_rises
 pub rows_are_partitioned : {R : Type 0} (number : R → ℕ) (rows : List R) (first : ℕ) → numbers_rise number rows ≡ true → IsPartitionedBy (λ r. nat_lt (number r) first) rows
 rows_are_partitioned number rows first h = λ i j d le lt e. let order = never_falls number rows i j d h le lt in lower (number (get_or rows i d)) (number (get_or rows j d)) first order e
 
-at_least : (a b : ℕ) → nat_lt a b ≡ false → b ≤ a
+pub at_least : (a b : ℕ) → nat_lt a b ≡ false → b ≤ a
 at_least a b h = grind (arith, nat_tests)
 
-under : (a b : ℕ) → nat_lt a b ≡ true → a < b
+pub under : (a b : ℕ) → nat_lt a b ≡ true → a < b
 under a b h = grind (arith, nat_tests)
 
 pub start_at : {R : Type 0} (number : R → ℕ) (rows : List R) (first start : ℕ) → start ≤ length rows
@@ -159,7 +159,7 @@ page_stays number rows old new first block more h = record {
   some = λ n. block_stays number rows old new ((block - 1) * 128) first 128 more (h.some n);
 }
 
-was_or_is : (xs : List ℕ) (x i y : ℕ) → slice_get (xs ++ x ∷ []) i ≡ Some y → i < length xs → slice_get xs i ≡ Some y
+pub was_or_is : (xs : List ℕ) (x i y : ℕ) → slice_get (xs ++ x ∷ []) i ≡ Some y → i < length xs → slice_get xs i ≡ Some y
 was_or_is [] x i y h lt = absurd (omega (arith, lt))
 was_or_is (z ∷ zs) x zero y h lt = h
 was_or_is (z ∷ zs) x (suc i) y h lt = was_or_is zs x i y h (omega (arith, lt))

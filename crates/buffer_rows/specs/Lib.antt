@@ -3,4 +3,3 @@ pub mod Pages
 pub mod Dense
 pub mod KeyOrder
 pub mod Laws
-pub mod Orders

@@ -8,8 +8,7 @@ use Rattle.buffer_lists.specs.Groups.{joined_count}
 use Rattle.buffer_lists.specs.Lemmas.GroupsTurned.{groups_cut}
 use Rattle.std.proofs.lemmas.List.Concat.{flat_map-append}
 use Rattle.buffer_lists.specs.Turning.{groups, groups_reversed_list, in_front}
-use Rattle.buffer_lists.specs.Lemmas.Picked.{AreAt}
-use Rattle.buffer_stages.specs.Lemmas.Moves.{are_both}
+use Rattle.buffer_lists.specs.Lemmas.Picked.{AreAt, are_both}
 use Rattle.buffer_stages.specs.Turned.{leading_turned}
 
 -- what follows the first item of a group begins no group

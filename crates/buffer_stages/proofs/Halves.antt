@@ -5,9 +5,8 @@ use Rattle.std.proofs.lemmas.List.{take-append-drop, drop-drop, drop-take, take-
 use Rattle.buffer_stages.specs.Fronts.{fronts, with_fronts_moved, StandApart}
 use Rattle.buffer_stages.specs.Moves.{with_range_moved}
 use Rattle.buffer_stages.specs.Lemmas.Fronted.{IsApart, apart_at, halves_gathered, short_gathered, two_gathered}
-
-pub range_size : {X : Type 0} (from to : ℕ) (xs : List X) → from ≤ to → to ≤ length xs → length (slice_range xs from to) ≡ to - from
-range_size from to xs le fits = length-take-le (to - from) (drop from xs) (omega (arith, length-drop from xs, le, fits))
+use Rattle.buffer_stages.specs.Lemmas.Parts.{range_size}
+use Rattle.buffer_glyphs.specs.Lemmas.Glyphs.{cut_out as whole_range}
 
 pub ranged : {X : Type 0} (from to i : ℕ) (d : X) (xs : List X) → i < to - from → get_or (slice_range xs from to) i d ≡ get_or xs (from + i) d
 ranged from to i d xs lt = get_or-take (to - from) (drop from xs) i d lt ∙ get_or-drop from xs i d
@@ -57,14 +56,6 @@ pub cut_between : {X : Type 0} (pair : X → X → Bool) (from middle to : ℕ) 
 cut_between pair from middle to xs d lt last fits t is f = apart_in_range pair from middle to xs d lt last fits (sym is ∙ f)
 
 -- ---- all glyphs of a range
-
-whole_range : {X : Type 0} (from to : ℕ) (xs : List X) → from ≤ to → take from xs ++ slice_range xs from to ++ drop to xs ≡ xs
-whole_range from to xs le =
-    let n = to - from in
-    let at : from + n ≡ to = omega (arith, le) in
-    append_assoc (take from xs) (slice_range xs from to) (drop to xs)
-    ∙ ap (λ ys. take from xs ++ (slice_range xs from to ++ ys)) (sym (drop-drop n from xs ∙ ap (λ m. drop m xs) at))
-    ∙ ap (λ ys. take from xs ++ ys) (take-append-drop n (drop from xs)) ∙ take-append-drop from xs
 
 pub stays_gathered : {X : Type 0} (pair : X → X → Bool) (one : X → Bool) (from to : ℕ) (xs : List X) → from ≤ to → with_fronts_moved pair one (slice_range xs from to) ≡ slice_range xs from to
     → xs ≡ take from xs ++ with_fronts_moved pair one (slice_range xs from to) ++ drop to xs

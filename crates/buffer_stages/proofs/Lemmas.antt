@@ -18,3 +18,5 @@ pub mod Masks
 pub mod Elements
 pub mod Fitting
 pub mod Counts
+pub mod Arranged
+pub mod Made

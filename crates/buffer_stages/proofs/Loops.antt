@@ -6,7 +6,7 @@ use Rattle.buffer_stages.specs.Stages.{AreMapped}
 use Rattle.buffer_glyphs.specs.declared.info.hb_glyph_info_t.{hb_glyph_info_t}
 use Rattle.buffer_glyphs.specs.Items.{Item, item_of, strip, clusters}
 use Rattle.buffer_glyphs.specs.Origins.{origin_of, origins}
-use Rattle.buffer_glyphs.specs.Lists.{seen_step}
+use Rattle.buffer_glyphs.proofs.Lists.{seen_step}
 
 there : (xs : List hb_glyph_info_t) (i : ℕ) (d : hb_glyph_info_t) → i < length xs → slice_get xs i ≡ Some (get_or xs i d)
 there [] i d lt = absurd (omega arith)

@@ -12,11 +12,11 @@ use Rattle.buffer_core.specs.Sides.{Sides, all_glyphs, items_of}
 use Rattle.buffer_stages.specs.Fronts.{one_seen}
 use Rattle.buffer_stages.specs.Ordering.{begins_at, same_group}
 use Rattle.buffer_stages.specs.Turned.{leading_turned}
-use Rattle.buffer_stages.specs.Lemmas.Parts.{range_seen}
 use Rattle.buffer_stages.specs.Lemmas.Sorted.{groups_turned_size}
 use Rattle.buffer_stages.proofs.GroupOrder.{turned_all, turned_at, turned_seen}
+use Rattle.buffer_glyphs.specs.Lemmas.Origins.{slice_seen as range_seen}
 
-got_strip : (gs : List hb_glyph_info_t) (i : ℕ) (g : hb_glyph_info_t) → slice_get gs i ≡ Some g → slice_get (strip gs) i ≡ Some (item_of g)
+pub got_strip : (gs : List hb_glyph_info_t) (i : ℕ) (g : hb_glyph_info_t) → slice_get gs i ≡ Some g → slice_get (strip gs) i ≡ Some (item_of g)
 got_strip [] i g e = cc
 got_strip (h ∷ gs) zero g e = let same : h ≡ g = cc in ap (λ k. Some (item_of k)) same
 got_strip (h ∷ gs) (suc i) g e = got_strip gs i g e

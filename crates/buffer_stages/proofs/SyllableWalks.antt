@@ -12,8 +12,9 @@ use Rattle.buffer_stages.specs.Stages.{IsFollowed}
 use Rattle.buffer_glyphs.specs.Rewriting.{Arrangement, beside}
 use Rattle.buffer_stages.specs.Rewriting.{each_rewritten, by_syllable}
 use Rattle.buffer_stages.specs.SyllableBuffers.{IsRewritten, with_rule}
-use Rattle.buffer_stages.specs.Lemmas.Rewritings.{middle, items_after, rewritten_beside, rewritten_count, rewritten_follows, rewritten_nothing, counted}
+use Rattle.buffer_stages.specs.Lemmas.Rewritings.{items_after, rewritten_beside, rewritten_count, rewritten_follows, rewritten_nothing, counted}
 use Rattle.buffer_stages.proofs.Lemmas.Syllables.{syllable_end, syllables_cut}
+use Rattle.buffer_stages.specs.Lemmas.Fronted.{part_of as middle}
 
 -- the syllables before an index were rewritten: whatever the others become, all become
 pub record IsUnderway (rule : List Item → Arrangement) (start : ℕ) (old now : Sides) : Type 0 where

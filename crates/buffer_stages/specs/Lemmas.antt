@@ -10,6 +10,4 @@ pub mod Rewritings
 pub mod Parts
 pub mod Permuted
 pub mod Numbers
-pub mod Arranged
 pub mod Sorted
-pub mod Made

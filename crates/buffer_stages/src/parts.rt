@@ -46,7 +46,7 @@ pub fn mask_within(glyphs: &mut [hb_glyph_info_t], start: usize, end: usize, mas
     mask_each(&mut glyphs[start..end], mask);
 }
 
-#[tactic(auto, using(buffer_glyphs::specs::Lists::map_step))]
+#[tactic(auto, using(buffer_glyphs::proofs::Lists::map_step))]
 fn mask_each(glyphs: &mut [hb_glyph_info_t], mask: hb_mask_t)
     ensures { glyphs.new ≡ map (glyph_masked mask) glyphs.old }
 {

@@ -3,7 +3,7 @@ use Rattle.std.proofs.Common.{ℕ, ◌≡◌, Bool, true, List, [], ◌∷◌, O
 use Rattle.std.proofs.lemmas.Bool.{and_from, cond_both}
 use Rattle.buffer_unicode.specs.Keys.{follows, rises_after, is_rising, row_fault}
 
-rises_from : {R : Type 0} (in_range : R → Bool) (high low : R → ℕ) (before : Option R) (rows : List R) → row_fault in_range high low before rows ≡ None → rises_after high low before rows ≡ true
+pub rises_from : {R : Type 0} (in_range : R → Bool) (high low : R → ℕ) (before : Option R) (rows : List R) → row_fault in_range high low before rows ≡ None → rises_after high low before rows ≡ true
 rises_from in_range high low before [] h = refl
 rises_from in_range high low before (r ∷ rs) h =
     cond_both (in_range r) _ _ (λ o. o ≡ None → rises_after high low before (r ∷ rs) ≡ true)

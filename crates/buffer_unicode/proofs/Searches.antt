@@ -7,7 +7,7 @@ use Rattle.std.specs.Ordering.{is_lt, nat_cmp}
 use Rattle.buffer_rows.specs.Keys as Rising
 use Rattle.buffer_unicode.specs.Keys.{is_below, precedes, follows, rises_after, is_rising, is_at}
 
-below_trans : (a b c d e f : ℕ) → is_below a b c d ≡ true → is_below c d e f ≡ true → is_below a b e f ≡ true
+pub below_trans : (a b c d e f : ℕ) → is_below a b c d ≡ true → is_below c d e f ≡ true → is_below a b e f ≡ true
 below_trans a b c d e f p q = grind (arith, nat_tests)
 
 between_is_at : (a b c d : ℕ) → is_below a b c d ≡ false → is_below c d a b ≡ false → (a == c && b == d) ≡ true

@@ -8,6 +8,7 @@ use Rattle.buffer_unicode_tables.specs.Hangul.{is_syllable, hangul_split}
 use Rattle.buffer_unicode_tables.specs.Ranges.{AllAmong, SomeAmong}
 use Rattle.buffer_unicode_tables.specs.Tables.{splits_of}
 use Rattle.buffer_unicode_tables.proofs.Syllables.{among_bounds, no_split_without_syllable, split_without_trailing, split_with_trailing}
+use Rattle.buffer_unicode.proofs.Searches.{find_passes}
 
 pub ends_without_split : (splits : Splits) (depth u : ℕ) → splits u ≡ None → ends_within splits depth u ≡ true
 unfolding ends_within
@@ -26,7 +27,7 @@ ends_with_first splits (suc depth) u a b h n =
     let e : suc depth - 1 ≡ depth = omega arith in
     rw (h, e) refl
 
-ends_by_more : (e f : ℕ → Bool) → ((a : ℕ) → e a ≡ true → f a ≡ true) → (s : Option (ℕ × ℕ)) → ends_by e s ≡ true → ends_by f s ≡ true
+pub ends_by_more : (e f : ℕ → Bool) → ((a : ℕ) → e a ≡ true → f a ≡ true) → (s : Option (ℕ × ℕ)) → ends_by e s ≡ true → ends_by f s ≡ true
 ends_by_more e f more None h = refl
 ends_by_more e f more (Some (a, b)) h = more a h
 
@@ -39,15 +40,6 @@ pub ends_more : (splits : Splits) (depth u : ℕ) → ends_within splits depth u
 unfolding ends_within
 ends_more splits zero u h = no_split_ends (ends_within splits zero) (splits u) h
 ends_more splits (suc depth) u h = ends_by_more (ends_within splits depth) (ends_within splits (suc depth)) (ends_more splits depth) (splits u) h
-
-find_passes : {X : Type 0} (p q : X → Bool) (xs : List X) (x : X) → find p xs ≡ Some x → list_all q xs ≡ true → (p x ≡ true) × (q x ≡ true)
-find_passes p q [] x e h = cc
-find_passes p q (y ∷ ys) x e h =
-    let pieces = and_parts (q y) (list_all q ys) h in
-    cond_both (p y) _ _ (λ o. o ≡ Some x → (p x ≡ true) × (q x ≡ true))
-    (λ passes same. let at : y ≡ x = cc in (rw at at passes, rw at at pieces.0))
-    (λ _ later. find_passes p q ys x later pieces.1)
-    e
 
 syllable_splits : (splits : List Split) (u a b : ℕ) → hangul_split u ≡ Some (a, b) → splits_of splits u ≡ Some (a, b)
 syllable_splits splits u a b h = rw h refl

@@ -4,7 +4,7 @@ use Rattle.std.proofs.lemmas.Bool.{cases_eq, cases_lt, cases_order, cond-true, c
 use Rattle.std.proofs.lemmas.List.{append-nil}
 use Rattle.std.proofs.lemmas.List.Elements.{filter-append}
 use Rattle.std.proofs.lemmas.Bool.Decides.{nat_tests}
-use Rattle.buffer_rows.specs.Orders.{none_beyond, same_key_twice, two_keys}
+use Rattle.buffer_rows.proofs.Orders.{none_beyond, same_key_twice, two_keys}
 use Rattle.buffer_rows.specs.KeyOrder.{of_key, by_key, key_bound}
 use Rattle.buffer_unicode_tables.specs.ClassOrder.{run_order, order_after, class_order, beside_starters, OrderIsByClasses}
 
@@ -34,7 +34,7 @@ no_starter_class : {X : Type 0} (class : X → ℕ) (run : List X) → IsRun cla
 no_starter_class class [] r = refl
 no_starter_class class (x ∷ xs) r = cond-false _ _ _ (ne_eqb _ 0 r.0) ∙ no_starter_class class xs r.1
 
-run_of_class : {X : Type 0} (class : X → ℕ) (c : ℕ) (run : List X) → IsRun class run → IsRun class (of_key class c run)
+pub run_of_class : {X : Type 0} (class : X → ℕ) (c : ℕ) (run : List X) → IsRun class run → IsRun class (of_key class c run)
 run_of_class class c [] r = tt
 run_of_class class c (x ∷ xs) r =
     elim (class x == c) as (λ b. IsRun class (if b then x ∷ of_key class c xs else of_key class c xs)) [

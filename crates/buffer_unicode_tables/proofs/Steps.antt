@@ -12,7 +12,7 @@ use Rattle.buffer_unicode_tables.specs.Tables.{Tables, split_of, class_of}
 use Rattle.buffer_unicode_tables.specs.Texts.{full_expansion, full_text, text_order, IsSwap, splits, joins, swaps, same, then_step}
 use Rattle.buffer_unicode_tables.proofs.Expansions.{expansion_of_pieces, expansion_of_split}
 
-full_append : (t : Tables) (xs ys : List ℕ) → full_text t (xs ++ ys) ≡ full_text t xs ++ full_text t ys
+pub full_append : (t : Tables) (xs ys : List ℕ) → full_text t (xs ++ ys) ≡ full_text t xs ++ full_text t ys
 full_append t xs ys = flat_map-append (full_expansion t) xs ys
 
 -- the halves of a decomposition have the expansion of the whole

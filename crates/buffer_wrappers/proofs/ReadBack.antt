@@ -17,6 +17,7 @@ use Rattle.buffer_wrappers.specs.Pen.{pen_after}
 use Rattle.buffer_wrappers.specs.Printed.{name_text, cluster_text, offset_text, advance_text, position_text, flag_text, extents_text, glyph_text, glyph_texts, printed_text}
 use Rattle.buffer_wrappers.specs.Shown.{ShownGlyph, shown_glyph, numbers_and_flags, HasTypedNumbers, EqualTextsShowEqualRuns}
 use Rattle.buffer_wrappers.proofs.Numerals.{IsClear, decimal_split, signed_split}
+use Rattle.buffer_glyphs.specs.Lemmas.Handed.{flags_defined as below_eight}
 
 -- a glyph's text ends here
 abbrev IsEnd : List ℕ → Type 0
@@ -196,9 +197,6 @@ plain_split s t rest rest' typed typed' end end' e =
 append_cases : (b : Bool) (xs ys rest : List ℕ) → cond b xs ys ++ rest ≡ cond b (xs ++ rest) (ys ++ rest)
 append_cases true xs ys rest = refl
 append_cases false xs ys rest = refl
-
-below_eight : (mask : ℕ) → bit_and mask 7 < 8
-below_eight mask = let e : bit_and mask 7 ≡ mask % 2 ^ 3 = and_mask mask 3 in omega (arith, e)
 
 flag_text_is : (mask : ℕ) (rest : List ℕ) → flag_text numbers_and_flags mask ++ rest ≡ flags_then (bit_and mask 7) rest
 unfolding flag_text

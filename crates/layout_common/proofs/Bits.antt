@@ -202,14 +202,6 @@ past_mask m b lt le =
 
 -- ---- loops
 
--- one more glyph
-pub glyph_step : (s i d old set new k : ℕ) (xs : List ℕ) → i < length xs → Adds (is_bucket_of s (take i xs)) old set → Adds (λ b. b == k) set new → k ≡ bucket s (get_or xs i d)
-    → Adds (is_bucket_of s (take (i + 1) xs)) old new
-glyph_step s i d old set new k xs lt before after is b =
-    let more : is_bucket_of s (take (i + 1) xs) b ≡ (is_bucket_of s (take i xs) b || b == bucket s (get_or xs i d)) = list_any_more (λ g. b == bucket s g) xs i d lt in
-    after b ∙ ap (λ t. t || b == k) (before b) ∙ or_assoc (has_bucket old b) (is_bucket_of s (take i xs) b) (b == k)
-    ∙ ap (λ n. has_bucket old b || (is_bucket_of s (take i xs) b || b == n)) is ∙ ap (λ t. has_bucket old b || t) (sym more)
-
 group_next : (first k b : ℕ) → is_bucket_from first (k + 1) b ≡ (is_bucket_from first k b || b == (first + k) % 64)
 group_next first k b = ap (λ n. is_bucket_from first n b) (add-one k)
 

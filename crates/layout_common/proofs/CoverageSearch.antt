@@ -9,6 +9,7 @@ use Rattle.std.proofs.lemmas.Bool.{cases_lt, or_left, or_right}
 use Rattle.std.proofs.lemmas.Bool.Decides.{nat_tests}
 use Rattle.std.proofs.lemmas.List.Sorted.{searchable_from_sorted, Contains-permutation, IsPermutation-sym}
 use Rattle.layout_common.specs.Coverage.{is_covered}
+use Rattle.layout_common.proofs.Bits.{same_truth as alike}
 
 same_number : (a b : ℕ) → (a == b) ≡ true → a ≡ b
 same_number a b h = grind (arith, nat_tests)
@@ -28,11 +29,6 @@ contains_covered : (g : ℕ) (xs : List ℕ) → Contains xs g → is_covered g 
 contains_covered g [] h = absurd (omega (arith, h.1))
 contains_covered g (x ∷ xs) (zero, low, is) = or_left _ _ (itself x g is)
 contains_covered g (x ∷ xs) (suc i, low, is) = or_right _ _ (contains_covered g xs (i, omega (arith, low), is))
-
-alike : (a b : Bool) → (a ≡ true → b ≡ true) → (b ≡ true → a ≡ true) → a ≡ b
-alike true b f h = sym (f refl)
-alike false true f h = h refl
-alike false false f h = refl
 
 pub covered_after_sort : (g : ℕ) (xs ys : List ℕ) → IsPermutation xs ys → is_covered g ys ≡ is_covered g xs
 covered_after_sort g xs ys p =

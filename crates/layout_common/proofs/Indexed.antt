@@ -45,17 +45,6 @@ bit_added covers subtables row bucket bit old new before adds k g s at acts e f 
   | inr other ↦ adds (k % 64) ∙ or_first (has_bucket old (k % 64)) (k % 64 == bit) (before k g s at acts e f (omega (arith, lt, other)))
 ]
 
-pub bit_left : {S : Type 0} (covers : S → ℕ → Bool) (subtables : List S) (row bucket bit word : ℕ) → HasBitsBelow covers subtables row bucket bit word → ((s : S) (g : ℕ) → slice_get subtables (row * 64 + bit) ≡ Some s → covers s g ≡ true → g % 1024 ≢ bucket) → HasBitsBelow covers subtables row bucket (bit + 1) word
-bit_left covers subtables row bucket bit word before never k g s at acts e f lt = elim (cases_eq (k % 64) bit) [
-  | inl same ↦
-      let there : k ≡ row * 64 + bit = omega (arith, e, same) in
-      absurd (never s g (ap (slice_get subtables) (sym there) ∙ at) acts f)
-  | inr other ↦ before k g s at acts e f (omega (arith, lt, other))
-]
-
-pub all_bits : {S : Type 0} (covers : S → ℕ → Bool) (subtables : List S) (row bucket bit word : ℕ) → 64 ≤ bit → HasBitsBelow covers subtables row bucket bit word → HasBits covers subtables row bucket word
-all_bits covers subtables row bucket bit word le before k g s at acts e f = before k g s at acts e f (omega (arith, le))
-
 -- ---- a word more
 
 pushed : (P : ℕ → ℕ → Type 0) (ws : List ℕ) (w : ℕ) → ((i v : ℕ) → slice_get ws i ≡ Some v → P i v) → P (length ws) w → (i v : ℕ) → slice_get (ws ++ w ∷ []) i ≡ Some v → P i v
@@ -63,11 +52,6 @@ pushed P [] w old new zero v e = let same : w ≡ v = cc in subst (P 0) same new
 pushed P [] w old new (suc i) v e = cc
 pushed P (x ∷ ws) w old new zero v e = old zero v e
 pushed P (x ∷ ws) w old new (suc i) v e = pushed (λ j. P (suc j)) ws w (λ j u f. old (suc j) u f) new i v e
-
-pub word_pushed : {S : Type 0} (covers : S → ℕ → Bool) (subtables : List S) (words : List ℕ) (at row bucket word : ℕ) → AreIndexed covers subtables words → length words ≡ at → row ≡ at / 1024 → bucket ≡ at % 1024 → HasBits covers subtables row bucket word → AreIndexed covers subtables (words ++ word ∷ [])
-word_pushed covers subtables words at row bucket word before long r b has =
-    let P : ℕ → ℕ → Type 0 = λ i v. HasBits covers subtables (i / 1024) (i % 1024) v in
-    pushed P words word before (λ k g s there acts e f. has k g s there acts (e ∙ ap (λ n. n / 1024) long ∙ sym r) (f ∙ ap (λ n. n % 1024) long ∙ sym b))
 
 -- ---- the index is asked
 

@@ -82,15 +82,3 @@ went_behind end p n s t en ep on moves random =
     let P : ℕ → Type 0 = λ q. Nests (if holds q (cut_of s) then Acts (cut_at q (cut_with random s)) [] else Refuses TooLong) (Ok true) random random s t in
     let Q : Bool → Type 0 = λ b. Nests (if b then Acts (cut_at p (cut_with random s)) [] else Refuses TooLong) (Ok true) random random s t in
     subst P e (subst Q (sym on) (refl, moves random))
-
-pub no_way_behind : (end p n : ℕ) (x : ShapeCause) (s t : Sides) → n ≡ length (whole (cut_of s)) → p ≡ min end n → IsMoveRefusal p (cut_of s) x → (random : ℕ) → Nests (cut_after_match (Walks (cut_with random s) [] end [])) (Err x) random random s t
-no_way_behind end p n x s t en ep off random =
-    let e : p ≡ min end (length (whole (cut_of s))) = ep ∙ ap (min end) en in
-    let P : ℕ → Type 0 = λ q. Nests (if holds q (cut_of s) then Acts (cut_at q (cut_with random s)) [] else Refuses TooLong) (Err x) random random s t in
-    subst P e (of (holds p (cut_of s)) refl off)
-  where
-    of : (b : Bool) → holds p (cut_of s) ≡ b → IsMoveRefusal p (cut_of s) x → Nests (if b then Acts (cut_at p (cut_with random s)) [] else Refuses TooLong) (Err x) random random s t
-    of true is (inl memory) = λ h. absurd (h memory)
-    of true is (inr (long, not)) = cc
-    of false is (inl memory) = λ h. absurd (h memory)
-    of false is (inr (long, not)) = λ h. ap Refuses (sym long)

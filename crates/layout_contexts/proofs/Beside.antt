@@ -16,6 +16,7 @@ use Rattle.layout_match.specs.Searches.{Search, answer, has_mask, is_in_syllable
 use Rattle.layout_match.specs.Sequences.{test_at}
 use Rattle.buffer_stages.proofs.Lemmas.Glyphs.{first_item}
 use Rattle.layout_contexts.proofs.Followed.{SecondFails}
+use Rattle.layout_match.proofs.Next.{untested as fits_not}
 
 -- an item that no search skips
 pub record IsSeen (props : ℕ) (sets : List (List ℕ)) (x : Item) : Type 0 where
@@ -101,11 +102,6 @@ lacks : (p q t : Bool) → q ≡ false → (p && q && t) ≡ false
 lacks true q t e = rw e refl
 lacks false q t e = refl
 
-fits_not : (p q t : Bool) → t ≡ false → (p && q && t) ≡ false
-fits_not true true t e = e
-fits_not true false t e = refl
-fits_not false q t e = refl
-
 pub of_other_syllable : (s : Search) (test : Item → Bool) (x : Item) → is_in_syllable s.syllable x ≡ false → is_wanted s test x ≡ false
 of_other_syllable s test x e = lacks (has_mask s.mask x) (is_in_syllable s.syllable x) (test x) e
 
@@ -118,7 +114,3 @@ of_other_test s test x e = fits_not (has_mask s.mask x) (is_in_syllable s.syllab
 pub not_true : (b : Bool) → not b ≡ true → b ≡ false
 not_true true e = cc
 not_true false e = refl
-
--- the syllable of the glyph at the cursor
-pub syllable_there : (a : ApplyContext) (gs : List hb_glyph_info_t) (g : hb_glyph_info_t) → slice_get gs 0 ≡ Some g → a.per_syllable ≡ true → own_syllable a (strip gs) ≡ Some g.syllable
-syllable_there a gs g at on = rw (on, first_item gs g at) refl

@@ -5,7 +5,7 @@ use Rattle.std.proofs.Math.Seq.{drop-cons}
 use Rattle.std.proofs.lemmas.List.{drop_all}
 use Rattle.layout_face.specs.WouldApplyLookups.{fit}
 
-none : (b : Bool) → (b && false) ≡ false
+pub none : (b : Bool) → (b && false) ≡ false
 none true = refl
 none false = refl
 

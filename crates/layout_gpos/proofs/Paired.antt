@@ -26,8 +26,8 @@ use Rattle.layout_gpos.specs.Values.{is_zero}
 use Rattle.layout_tables.specs.Covers.{covers_first_of_pair}
 use Rattle.layout_gpos.specs.Pairs.{has_no_effect, next_item, pair_adjusted, pair_events, pair_from, pair_length, pair_of, pair_second, pair_subtable, pair_values}
 use Rattle.layout_gpos.proofs.Lemmas.Placed.{break_passed, front_count}
-use Rattle.layout_gpos.proofs.Lemmas.Read.{item_at}
 use Rattle.layout_gpos.proofs.Lemmas.Performed.{marked_made}
+use Rattle.buffer_stages.proofs.Reversed.{got_strip as item_at}
 
 -- ---- a pair
 
@@ -83,13 +83,6 @@ pair_acted r apart i v s mid new p some lt here e =
 
 -- ---- the second glyph
 
-pub second_found : (r apart : ℕ) (d : Direction) (values : Item → Option PairValues) (o : Option PairValues) (found : Result ℕ ℕ) (acted : Bool) (s new : Sides) (g : hb_glyph_info_t) → slice_get s.ahead apart ≡ Some g → o ≡ values (item_of g) → found ≡ Ok apart
-    → IsPerformed (pair_of d apart o (cut_with r s)) acted r r s new → IsPerformed (pair_second d values found (cut_with r s)) acted r r s new
-second_found r apart d values o found acted s new g at is e done =
-    let same : pair_second d values found (cut_with r s) ≡ pair_of d apart o (cut_with r s) =
-    ap (λ f. pair_second d values f (cut_with r s)) e ∙ ap (λ q. pair_of d apart (option_and_then values q) (cut_with r s)) (item_at s.ahead apart g at) ∙ ap (λ q. pair_of d apart q (cut_with r s)) (sym is) in
-    subst (λ (o : Outcome). IsPerformed o acted r r s new) (sym same) done
-
 pub second_failed : (r end : ℕ) (d : Direction) (values : Item → Option PairValues) (found : Result ℕ ℕ) (s new : Sides) → found ≡ Err end
     → IsPerformed (attempt_around 0 end (cut_with r s)) false r r s new → IsPerformed (pair_second d values found (cut_with r s)) false r r s new
 second_failed r end d values found s new e done = subst (λ (f : Result ℕ ℕ). IsPerformed (pair_second d values f (cut_with r s)) false r r s new) (sym e) done
@@ -127,13 +120,6 @@ sought false o p e = cc
 sought_none : (b : Bool) (p : Option PairValues) → (if b then Some p else None) ≡ None → b ≡ false
 sought_none true p e = cc
 sought_none false p e = refl
-
-pub pair_sought : (r n m apart : ℕ) (d : Direction) (a : ApplyContext) (t : PairPos) (o : Option PairValues) (sought_is : Option (Option PairValues)) (acted : Bool) (s new : Sides) (g : hb_glyph_info_t) → Ok apart ≡ next_item a (strip s.ahead) → slice_get s.ahead apart ≡ Some g → m ≡ g.glyph_id
-    → sought_is ≡ (if covers_first_of_pair t n then Some (pair_values t n m) else None) → sought_is ≡ Some o → IsPerformed (pair_of d apart o (cut_with r s)) acted r r s new → IsPerformed (by_first d a t n (cut_with r s) s) acted r r s new
-pair_sought r n m apart d a t o sought_is acted s new g found at is e some done =
-    let both = sought (covers_first_of_pair t n) o (pair_values t n m) (sym e ∙ some) in
-    let values : o ≡ pair_values t n g.glyph_id = both.1 ∙ ap (λ (k : ℕ). pair_values t n k) is in
-    where_begun r n d a t acted s new both.0 (second_found r apart d (λ y. pair_values t n y.number) o (next_item a (strip s.ahead)) acted s new g at values (sym found) done)
 
 pub none_sought : (r n m : ℕ) (d : Direction) (a : ApplyContext) (t : PairPos) (sought_is : Option (Option PairValues)) (s : Sides) → sought_is ≡ (if covers_first_of_pair t n then Some (pair_values t n m) else None) → sought_is ≡ None → IsPerformed (by_first d a t n (cut_with r s) s) false r r s s
 none_sought r n m d a t sought_is s e none = where_not_begun r n d a t s (sought_none (covers_first_of_pair t n) (pair_values t n m) (sym e ∙ none))

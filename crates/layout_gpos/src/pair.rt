@@ -202,7 +202,7 @@ impl Apply for PairAdjustment {
 
 /// Pair adjustment (OpenType, GPOS lookup type 2) of the glyph at the cursor, where it begins pairs, and the nearest one
 /// after it.
-#[tactic(auto, using(crate::proofs::Lemmas::Read::number_beyond, crate::proofs::Lemmas::Read::found_ahead))]
+#[tactic(auto, using(layout_match::proofs::Lemmas::Idle::number_ahead_at, crate::proofs::Lemmas::Read::found_ahead))]
 fn apply_from(
     subtable: &PairPos,
     first: u16,

@@ -82,18 +82,6 @@ then_put es cut a b c f g = record {
   numbers = λ h. g.numbers (ap are_glyphs (same_numbers a b f.cut_is) ∙ h);
 }
 
-pub match_performed : (gdef : GlyphDefinition) (back ahead glyph : ℕ) (s mid new : Sides) → IsPassed (Break (length s.behind - back) (length s.behind + ahead) ∷ []) s mid → PerformsWithoutOutput (Acts (cut_with_substitute_kept gdef glyph (cut_of mid)) []) true mid new
-    → PerformsWithoutOutput (reverse_after_backtrack gdef glyph ahead (Ok back) (cut_of s)) true s new
-match_performed gdef back ahead glyph s mid new p d =
-    let all = then_put (Break (length s.behind - back) (length s.behind + ahead) ∷ []) (cut_with_substitute_kept gdef glyph (cut_of mid)) s mid new p d.1 in
-    let P : ℕ → Type 0 = λ k. IsPutWithoutOutput (cut_with_substitute_kept gdef glyph (cut_of mid)) (Break (k - back) (k + ahead) ∷ []) s new in
-    let Q : Cut → Type 0 = λ c. IsPutWithoutOutput (cut_with_substitute_kept gdef glyph c) (Break (length (cut_of s).front - back) (length (cut_of s).front + ahead) ∷ []) s new in
-    (refl, subst Q p.cut_is (subst P (front_count s) all))
-
--- what is known of the search before the cursor decides
-pub before_performed : (gdef : GlyphDefinition) (glyph ahead : ℕ) (found given : Result ℕ ℕ) (acted : Bool) (s new : Sides) → given ≡ found → PerformsWithoutOutput (reverse_after_backtrack gdef glyph ahead given (cut_of s)) acted s new → PerformsWithoutOutput (reverse_after_backtrack gdef glyph ahead found (cut_of s)) acted s new
-before_performed gdef glyph ahead found given acted s new e d = let P : Result ℕ ℕ → Type 0 = λ r. PerformsWithoutOutput (reverse_after_backtrack gdef glyph ahead r (cut_of s)) acted s new in subst P e d
-
 pub reverse_performed : (a : ApplyContext) (t : ReverseChainSubst) (n : ℕ) (o : Option ℕ) (acted : Bool) (s new : Sides) (g : hb_glyph_info_t) → slice_get s.ahead 0 ≡ Some g → n ≡ g.glyph_id → value_of n t.rows ≡ o
     → PerformsWithoutOutput (reverse_substitution a (map is_covered_by t.backtrack) (map is_covered_by t.lookahead) o (cut_of s)) acted s new → PerformsWithoutOutput (reverse_subtable a t (cut_of s)) acted s new
 reverse_performed a t n o acted s new g at is row d =

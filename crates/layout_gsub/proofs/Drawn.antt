@@ -59,12 +59,3 @@ alternate_drawn gdef given glyphs n k r after end result s mid new same at withi
     let Q : Option ℕ → Type 0 = λ o. Performs (later es (single_substitution gdef o (cut_with after s))) result r end s new in
     let S : ℕ → Type 0 = λ m. Performs (later es (single_substitution gdef (slice_get glyphs (next_random r % length glyphs)) (cut_with m s))) result r end s new in
     subst S state (subst Q there here)
-
--- whether an alternate is drawn decides
-pub drawn_performs : (gdef : GlyphDefinition) (random : Bool) (value : ℕ) (glyphs : List ℕ) (r after : ℕ) (result : Result Bool ShapeCause) (s new : Sides) → is_drawn random value glyphs ≡ true → Performs (drawn_alternate gdef glyphs (cut_with r s)) result r after s new
-    → Performs (alternate_of gdef random value glyphs (cut_with r s)) result r after s new
-drawn_performs gdef random value glyphs r after result s new e d = rw e d
-
-pub undrawn_performs : (gdef : GlyphDefinition) (random : Bool) (value : ℕ) (glyphs : List ℕ) (r after : ℕ) (result : Result Bool ShapeCause) (s new : Sides) (o : Option ℕ) → is_drawn random value glyphs ≡ false → alternate_of_value value glyphs ≡ o
-    → Performs (single_substitution gdef o (cut_with r s)) result r after s new → Performs (alternate_of gdef random value glyphs (cut_with r s)) result r after s new
-undrawn_performs gdef random value glyphs r after result s new o e is d = rw (e, is) d

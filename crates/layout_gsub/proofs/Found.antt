@@ -18,7 +18,7 @@ use Rattle.layout_match.specs.declared.search.match_t.TheVariants.{MATCH, SKIP, 
 use Rattle.layout_match.specs.Matches.{answers_of, by_answer, indices, input_end, input_indices, nearest, nearest_from, sequence_end, then_sequence_end, with_index}
 use Rattle.layout_gsub.specs.Uniting.{AreRising, end_of}
 
-by_found : (m : match_t) (at i : ℕ) (r : Result ℕ ℕ) → (r ≡ Ok i → at + 1 ≤ i) → by_answer m at r ≡ Ok i → at ≤ i
+pub by_found : (m : match_t) (at i : ℕ) (r : Result ℕ ℕ) → (r ≡ Ok i → at + 1 ≤ i) → by_answer m at r ≡ Ok i → at ≤ i
 by_found MATCH at i r h e = let same : at ≡ i = cc in omega (arith, same)
 by_found NOT_MATCH at i r h e = cc
 by_found SKIP at i r h e = let le = h e in omega (arith, le)
@@ -41,15 +41,6 @@ found_one (Err n) asks at end xs le rest e = cc
 pub match_found : (asks : List (Item → match_t)) (at end : ℕ) (xs : List Item) → sequence_end asks at xs ≡ Ok end → AreFound at end (indices asks at xs)
 match_found [] at end xs e = let same : at ≡ end = cc in record { rising = tt; end_is = sym same }
 match_found (ask ∷ asks) at end xs e = found_one (nearest_from ask at xs) asks at end xs (λ i h. nearest_after ask at i (drop at xs) h) (λ next h. match_found asks next end xs h) e
-
-few_one : (r : Result ℕ ℕ) (asks : List (Item → match_t)) (xs : List Item) → ((next : ℕ) → length (indices asks next xs) ≤ length asks) → length (with_index r (λ next. indices asks next xs)) ≤ length asks + 1
-few_one (Ok i) asks xs h = let le = h (i + 1) in omega (arith, le)
-few_one (Err n) asks xs h = omega arith
-
--- no more of them than are asked for
-pub few_found : (asks : List (Item → match_t)) (at : ℕ) (xs : List Item) → length (indices asks at xs) ≤ length asks
-few_found [] at xs = omega arith
-few_found (ask ∷ asks) at xs = let le = few_one (nearest_from ask at xs) asks xs (λ next. few_found asks next xs) in omega (arith, le)
 
 others_of : (places rest : List ℕ) → places ≡ 0 ∷ rest → take (length places - 1) (drop 1 places) ≡ rest
 others_of places rest is =

@@ -25,7 +25,7 @@ use Rattle.buffer_stages.proofs.Lemmas.Glyphs.{and_both, all_of_both, all_of_fro
 use Rattle.layout_gsub.specs.Ligating.{after_components, are_marks, component_count, following_items, items_at, last_given, last_index, ligature_substitution, ligature_category, ligature_item, ligature_props, own_number, component_deletions, passed_item, passed_items, has_own_number, components_at, with_component}
 use Rattle.layout_gsub.specs.Uniting.{AreUnited, IsMerged, IsRenumbered, end_of}
 use Rattle.layout_gsub.proofs.Replaced.{acts_within, refuses_past}
-use Rattle.layout_gsub.proofs.Renumbered.{item_at}
+use Rattle.buffer_stages.proofs.Reversed.{got_strip as item_at}
 
 -- ---- a merge
 
@@ -174,26 +174,6 @@ ligature_made gdef glyph end r others x passed ahead s a b new g small ends le a
     numbered_first : (ys : List Item) → are_glyphs (map (ligature_item gdef glyph (items_at (0 ∷ others) (strip s.ahead)) (own_number (items_at (0 ∷ others) (strip s.ahead)) s.lig_id)) (take 1 ys)) ≡ true
     numbered_first [] = refl
     numbered_first (y ∷ ys) = and_both (nat_le glyph 65535) true (grind (arith, nat_tests, small)) refl
-
-pub ligature_refused : (gdef : GlyphDefinition) (glyph end r : ℕ) (others : List ℕ) (passed : List Item) (s a : Sides) (e : ShapeCause) → IsMerged end (last_given (items_at (0 ∷ others) (strip s.ahead)) s.lig_id) s a
-    → passed ≡ passed_items (has_own_number (items_at (0 ∷ others) (strip s.ahead))) (own_number (items_at (0 ∷ others) (strip s.ahead)) s.lig_id) (components_at 0 (strip s.ahead)) (components_at 0 (strip s.ahead)) 1 others (strip s.ahead)
-    → nat_le (length a.behind + (1 + length passed)) a.max_len ≡ false → e ≡ TooLong → ligature_substitution gdef glyph (0 ∷ others) end (cut_with r s) ≡ Refuses e
-ligature_refused gdef glyph end r others passed s a e m is full cause =
-    let c = cut_with r s in
-    let xs = strip s.ahead in
-    let ps = items_at (0 ∷ others) xs in
-    let id = own_number ps s.lig_id in
-    let real = passed_items (has_own_number ps) id (components_at 0 xs) (components_at 0 xs) 1 others xs in
-    let front-a : strip a.behind ≡ strip s.behind = ap (λ (t : Cut). t.front) m.cut_is in
-    let long : length a.behind ≡ length s.behind = sym (length-map a.behind item_of) ∙ ap length front-a ∙ length-map s.behind item_of in
-    let limit = still_limit s a m.still in
-    let same = ap length is in
-    let none : nat_le (length s.behind + (1 + length real)) s.max_len ≡ false = grind (arith, nat_tests, full, long, limit, same) in
-    refuses_past (1 + length real) r (Acts (record c {
-      front = c.front ++ map (ligature_item gdef glyph ps id) (take 1 xs) ++ real;
-      rest = after_components ps id (slice_get xs (last_index (0 ∷ others))) (drop end xs);
-      lig_id = last_given ps s.lig_id;
-    }) (Merge InList (length c.front) (length c.front + end) ∷ component_deletions (length c.front) 0 others)) s none ∙ ap Refuses (sym cause)
 
 -- what follows the components, by what they tell
 pub after_is : (p-marks : Bool) (p-id p-own p-count id end : ℕ) (others : List ℕ) (s : Sides) (g : hb_glyph_info_t) (rest : List Item) → end ≡ end_of 1 others → slice_get s.ahead (end - 1) ≡ Some g → p-marks ≡ are_marks (items_at (0 ∷ others) (strip s.ahead)) → p-count ≡ component_count (items_at (0 ∷ others) (strip s.ahead)) → p-id ≡ lig_id (item_of g) → p-own ≡ lig_num_comps (item_of g)

@@ -22,7 +22,7 @@ merged_by false n c e = refl
 merged_one : (n c : ℕ) → merged_number (n ∷ []) c ≡ c
 merged_one n c = rw (refl {a = n == c}) (merged_by (n == c) n c refl)
 
-all_cast : (range : List ℕ) (os : List Origin) → length range ≤ 1 → origins_merged range os ≡ os
+pub all_cast : (range : List ℕ) (os : List Origin) → length range ≤ 1 → origins_merged range os ≡ os
 all_cast range [] le = refl
 all_cast [] (o ∷ os) le = ap (λ q. q ∷ origins_merged [] os) (cast_same o) ∙ ap (λ qs. o ∷ qs) (all_cast [] os le)
 all_cast (n ∷ []) (o ∷ os) le = ap (λ c. cast c 0 o ∷ origins_merged (n ∷ []) os) (merged_one n o.cluster) ∙ ap (λ q. q ∷ origins_merged (n ∷ []) os) (cast_same o) ∙ ap (λ qs. o ∷ qs) (all_cast (n ∷ []) os le)

@@ -27,17 +27,6 @@ use Rattle.layout_gsub.specs.Multiples.{component_item, component_items, multipl
 use Rattle.layout_gsub.proofs.Replaced.{acts_within, refuses_past}
 use Rattle.layout_gsub.proofs.Merged.{one_merged}
 
--- a glyph of an item and an origin was put
-pub glyph_put : (x : Item) (o : Origin) (g : hb_glyph_info_t) (s new : Sides) → item_of g ≡ x → origin_of g ≡ o → new ≡ with_output_info g s → IsPut x o s new
-glyph_put x o g s new item from is =
-    let P : Sides → Type 0 = λ t. IsPut x o s t in
-    let put : IsPut x o s (with_output_info g s) = record {
-      items = map-append item_of s.behind (g ∷ []) ∙ ap (λ y. strip s.behind ++ y ∷ []) item;
-      origin = map-append origin_of s.behind (g ∷ []) ∙ ap (λ p. origins s.behind ++ p ∷ []) from;
-      others = refl;
-    } in
-    subst P (sym is) put
-
 -- one component more
 more_items : (gdef : GlyphDefinition) (x : Item) (k i : ℕ) (glyphs : List ℕ) → i < length glyphs → component_items gdef x k (take (suc i) glyphs) ≡ component_items gdef x k (take i glyphs) ++ component_item gdef x (k + i) (get_or glyphs i 0) ∷ []
 more_items gdef x k i [] lt = absurd (omega (arith, lt))
@@ -69,22 +58,6 @@ pub record AreOutput (gdef : GlyphDefinition) (glyphs : List ℕ) (i : ℕ) (g :
   pub others : now ≡ record s { behind = now.behind; is_apart = now.is_apart }
   pub room : 0 < i → length s.behind + i ≤ s.max_len
 
-pub none_output : (gdef : GlyphDefinition) (glyphs : List ℕ) (g : hb_glyph_info_t) (s : Sides) → AreOutput gdef glyphs 0 g s s
-none_output gdef glyphs g s = record {
-  items = sym (append_nil (strip s.behind));
-  origin = sym (append_nil (origins s.behind));
-  count = omega arith;
-  others = refl;
-  room = λ lt. absurd (omega (arith, lt));
-}
-  where
-    append_nil : {X : Type 0} (xs : List X) → xs ++ [] ≡ xs
-    append_nil [] = refl
-    append_nil (x ∷ xs) = ap (λ ys. x ∷ ys) (append_nil xs)
-
-room_is : (n : ℕ) (s : Sides) (b : Bool) → has_output_room n s ≡ b → nat_le (length s.behind + n) s.max_len ≡ b
-room_is n s b e = e
-
 pub one_output : (gdef : GlyphDefinition) (glyphs : List ℕ) (i : ℕ) (g : hb_glyph_info_t) (s now next : Sides) → i < length glyphs → AreOutput gdef glyphs i g s now → has_output_room 1 now ≡ true
     → IsPut (component_item gdef (item_of g) i (get_or glyphs i 0)) (origin_of g) now next → AreOutput gdef glyphs (i + 1) g s next
 one_output gdef glyphs i g s now next lt a room p =
@@ -105,15 +78,6 @@ one_output gdef glyphs i g s now next lt a room p =
       others = p.others ∙ ap (λ (t : Sides). record t { behind = next.behind; is_apart = next.is_apart }) a.others;
       room = λ lt. grind (arith, nat_tests, fits, limit, count);
     }
-
--- where one of them finds no room, there is none for all
-pub output_refused : (gdef : GlyphDefinition) (glyphs : List ℕ) (i : ℕ) (g : hb_glyph_info_t) (s now : Sides) → i < length glyphs → AreOutput gdef glyphs i g s now → has_output_room 1 now ≡ false → (r : ℕ) → multiple_substitution gdef glyphs (cut_with r s) ≡ Refuses TooLong
-output_refused gdef glyphs i g s now lt a full r =
-    let past : nat_le (length now.behind + 1) now.max_len ≡ false = full in
-    let limit : now.max_len ≡ s.max_len = ap (λ (t : Sides). t.max_len) a.others in
-    let count = a.count in
-    let none : nat_le (length s.behind + length glyphs) s.max_len ≡ false = grind (arith, nat_tests, past, limit, count, lt) in
-    refuses_past (length glyphs) r (Acts (cut_with_multiple gdef glyphs (cut_with r s)) (Replace (length (cut_with r s).front) 1 (length glyphs) ∷ [])) s none
 
 -- the origins of the glyphs
 from_one : (n : ℕ) (o : Origin) (front rest : List Origin) → first_of rest ≡ Some o → elements_replaced (length front) 1 n (front ++ rest) ≡ front ++ replicate n o ++ drop 1 rest

@@ -10,6 +10,8 @@ use Rattle.buffer_core.specs.Lending.{with_glyph_ahead}
 use Rattle.buffer_glyphs.specs.LigatureWords.{lig_comp, lig_id}
 use Rattle.layout_gsub.specs.Ligating.{following_items, with_component}
 use Rattle.layout_gsub.specs.Uniting.{IsRenumbered}
+use Rattle.buffer_stages.proofs.Reversed.{got_strip as item_at}
+use Rattle.buffer_stages.proofs.Lemmas.Elements.{split_at as some_left}
 
 -- so many were renumbered
 pub record IsFollowing (id last ended own : ℕ) (s : Sides) (i : ℕ) (now : Sides) : Type 0 where
@@ -17,17 +19,6 @@ pub record IsFollowing (id last ended own : ℕ) (s : Sides) (i : ℕ) (now : Si
   pub origin : origins now.ahead ≡ origins s.ahead
   pub others : now ≡ record s { ahead = now.ahead }
   pub count : length now.ahead ≡ length s.ahead
-
-pub none_following : (id last ended own : ℕ) (s : Sides) → IsFollowing id last ended own s 0 s
-none_following id last ended own s = record { items = refl; origin = refl; others = refl; count = refl }
-
-some_left : {X : Type 0} (xs : List X) (k : ℕ) (x : X) → slice_get xs k ≡ Some x → drop k xs ≡ x ∷ drop (k + 1) xs
-some_left xs k x at = drop_more xs k x (slice_get_within xs k x at) ∙ ap (λ y. y ∷ drop (k + 1) xs) (get_or_from_slice_get xs k x x at)
-
-pub item_at : (gs : List hb_glyph_info_t) (i : ℕ) (g : hb_glyph_info_t) → slice_get gs i ≡ Some g → slice_get (strip gs) i ≡ Some (item_of g)
-item_at [] i g at = cc
-item_at (h ∷ gs) zero g at = let same : h ≡ g = cc in ap (λ x. Some (item_of x)) same
-item_at (h ∷ gs) (suc i) g at = item_at gs i g at
 
 same_origins : (gs : List hb_glyph_info_t) (i : ℕ) (g mark : hb_glyph_info_t) → slice_get gs i ≡ Some g → origin_of mark ≡ origin_of g → origins (set gs i mark) ≡ origins gs
 same_origins [] i g mark at from = cc
@@ -55,17 +46,6 @@ one_following id last ended own i s now next g mark at same item from f is =
       origin = ap origins ahead ∙ same_origins now.ahead i g mark at from ∙ f.origin;
       others = is ∙ ap (λ (t : Sides). record t { ahead = set now.ahead i mark }) f.others ∙ ap (λ (gs : List hb_glyph_info_t). record s { ahead = gs }) (sym ahead);
       count = ap length ahead ∙ length-set now.ahead i mark ∙ f.count;
-    }
-
--- all are
-pub all_following : (id last ended own i : ℕ) (s now : Sides) → length now.ahead ≤ i → IsFollowing id last ended own s i now → IsRenumbered (following_items id last ended own (strip s.ahead)) s now
-all_following id last ended own i s now le f =
-    let xs = strip now.ahead in
-    let all : length xs ≤ i = let same = length-map now.ahead item_of in omega (arith, same, le) in
-    record {
-      items = sym (append-nil xs) ∙ ap (λ ys. ys ++ []) (sym (take_all i xs all)) ∙ ap (λ ys. take i xs ++ following_items id last ended own ys) (sym (drop_all i xs all)) ∙ f.items;
-      origin = f.origin;
-      others = f.others;
     }
 
 other_stops : (id last ended own : ℕ) (x : Item) (xs : List Item) → ((lig_id x == last) && not (lig_comp x == 0)) ≡ false → following_items id last ended own (x ∷ xs) ≡ x ∷ xs

@@ -5,7 +5,7 @@ use Rattle.std.proofs.lemmas.List.{map-append, length-append, length-map, length
 use Rattle.std.proofs.lemmas.Bool.Decides.{nat_tests}
 use Rattle.buffer_glyphs.specs.declared.info.hb_glyph_info_t.{hb_glyph_info_t}
 use Rattle.buffer_glyphs.specs.declared.level.BufferClusterLevel.{BufferClusterLevel}
-use Rattle.buffer_glyphs.specs.Lists.{take_next, drop_next}
+use Rattle.buffer_glyphs.proofs.Lists.{take_next, drop_next}
 use Rattle.buffer_glyphs.specs.Items.{Item, item_of, strip}
 use Rattle.buffer_glyphs.specs.Parts.{copies}
 use Rattle.buffer_glyphs.specs.Origins.{Asks, origin_of, origins}
@@ -35,9 +35,6 @@ first_from (g ∷ gs) info lt h = ap (λ o. o ∷ []) (h g refl)
 
 room_there : (info : hb_glyph_info_t) (s mid : Sides) (b : Bool) → s.is_open ≡ true → mid ≡ with_glyph_ahead 0 info s → b ≡ fits_next 1 mid → has_output_room 1 s ≡ b
 room_there info s mid b opened there held = sym (held ∙ ap (fits_next 1) there ∙ rw opened refl)
-
-pub none_fits : (info : hb_glyph_info_t) (s mid : Sides) (b : Bool) → s.is_open ≡ true → mid ≡ with_glyph_ahead 0 info s → b ≡ fits_next 1 mid → b ≡ false → has_output_room 1 s ≡ false
-none_fits info s mid b opened there held is = room_there info s mid b opened there held ∙ is
 
 pub passed_as : (info : hb_glyph_info_t) (s mid new : Sides) (b : Bool) → 0 < length s.ahead → s.is_open ≡ true → ((g : hb_glyph_info_t) → slice_get s.ahead 0 ≡ Some g → origin_of info ≡ origin_of g) → mid ≡ with_glyph_ahead 0 info s → b ≡ fits_next 1 mid → b ≡ true → new ≡ after_next_glyphs 1 mid → IsPassedAs (item_of info) s new
 passed_as info s mid new b lt opened from there held is after =
@@ -93,13 +90,6 @@ passed_count f n s new le a =
     let all = length-map s.ahead item_of in
     let some = length-map (take n (strip s.ahead)) f ∙ length-take-le n (strip s.ahead) (omega (arith, all, le)) in
     omega (arith, whole, front, some)
-
-pub between_refused : (f : Item → Item) (i count : ℕ) (s now : Sides) → i < count → count ≤ length s.ahead → ArePassedAs f i s now → has_output_room 1 now ≡ false → has_output_room count s ≡ false
-between_refused f i count s now lt le a full =
-    let long = passed_count f i s now (omega (arith, lt, le)) a in
-    let limit : now.max_len ≡ s.max_len = ap (λ (t : Sides). t.max_len) a.others in
-    let past : nat_le (length now.behind + 1) now.max_len ≡ false = full in
-    grind (arith, nat_tests, long, limit, past, lt)
 
 -- where they come from does not change
 between_from : (f : Item → Item) (n : ℕ) (s new : Sides) → ArePassedAs f n s new → origins_of new ≡ origins_of s
@@ -282,12 +272,6 @@ unite_refused x renumbers id ended own places s k from e o i now lt is there u f
 
 pub first_refused : (passed : List Item) (s : Sides) → has_output_room 1 s ≡ false → nat_le (length s.behind + (1 + length passed)) s.max_len ≡ false
 first_refused passed s full = let past : nat_le (length s.behind + 1) s.max_len ≡ false = full in grind (arith, nat_tests, past)
-
-pub uniting_open : (x : Item) (renumbers : Bool) (id ended own : ℕ) (places : List ℕ) (s : Sides) (k from e o : ℕ) (now : Sides) → IsUniting x renumbers id ended own places s k from e o now → s.is_open ≡ true → now.is_open ≡ true
-uniting_open x renumbers id ended own places s k from e o now u opened = ap (λ (t : Sides). t.is_open) u.others ∙ opened
-
-pub between_open : (f : Item → Item) (n : ℕ) (s new : Sides) → ArePassedAs f n s new → s.is_open ≡ true → new.is_open ≡ true
-between_open f n s new a opened = ap (λ (t : Sides). t.is_open) a.others ∙ opened
 
 -- the component itself is then at the cursor
 pub component_there : (x : Item) (renumbers : Bool) (id ended own : ℕ) (places : List ℕ) (s : Sides) (k from e o i : ℕ) (f : Item → Item) (now mid : Sides) → k < length places → i ≡ get_or places k 0 → i < length s.ahead → IsUniting x renumbers id ended own places s k from e o now → ArePassedAs f (i - from) now mid → 0 < length mid.ahead

@@ -1,1 +1,3 @@
 pub mod Skipping
+pub mod BreakLemmas
+pub mod Lemmas

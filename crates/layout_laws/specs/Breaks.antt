@@ -1,9 +1,7 @@
-pub mod Lemmas
 pub mod Matching
 pub mod Binding
 pub mod Frames
 pub mod Local
-pub mod Walks
 pub mod Divided
 pub mod RuleLaws
 pub mod LookupLaws

@@ -1,4 +1,3 @@
-pub mod Lemmas
 pub mod Alike
 pub mod RuleLengths
 pub mod Counting

@@ -58,7 +58,7 @@ stage_in_order stages total (suc i) h lt = rw (start_is stages i) (ends_rise 0 s
 pub stage_within : (stages : List StageMap) (total i : ℕ) → are_ends 0 stages total ≡ true → i < length stages → stage_end stages i ≤ total
 stage_within stages total i h lt = (ends_within 0 stages total i h lt).1
 
-self_most : (n : ℕ) → nat_le n n ≡ true
+pub self_most : (n : ℕ) → nat_le n n ≡ true
 self_most n = grind (arith, nat_tests)
 
 more_most : (n m : ℕ) → nat_le n (n + m) ≡ true

@@ -8,6 +8,7 @@ use Rattle.layout_map_features.specs.declared.kept_fields.KeptField.{KeptField}
 use Rattle.layout_map_features.specs.Entering.{RisesFrom}
 use Rattle.layout_map_features.specs.Fields.{global_bit, global_field, own_field, first_feature_bit, bits_needed, uses_global_bit, kept_field, kept_fields}
 use Rattle.layout_map_features.proofs.Threading.{kept_from, kept_threaded}
+use Rattle.buffer_rows.proofs.Paged.{under as below_is}
 
 -- ---- numbers that share no bit
 
@@ -48,9 +49,6 @@ pub record Own (low end : ℕ) (f : FeatureField) : Type 0 where
 abbrev AreFrom : ℕ → List KeptField → Type 0
 AreFrom next [] = Unit {0}
 AreFrom next (k ∷ ks) = (end : ℕ) × (next ≤ end) × (uses_global_bit k.request ≡ false → Own next end k.field) × AreFrom end ks
-
-below_is : (a b : ℕ) → nat_lt a b ≡ true → a < b
-below_is a b h = grind (arith, nat_tests)
 
 some_own : (next count value : ℕ) → next + count < 31 → Own next (next + count) (own_field next count value)
 some_own next count value lt = record { count = count; mask = refl; is_end = refl; within = lt }

@@ -20,6 +20,7 @@ use Rattle.layout_map_features.specs.declared.request.MergedRequest.{MergedReque
 use Rattle.layout_map_features.specs.declared.lookup.lookup_map_t.{lookup_map_t}
 use Rattle.layout_map_features.specs.Requests.{has_flag, is_global, greatest_value, outside_value, merged_request, request_with_later}
 use Rattle.layout_map_features.specs.Lookups.{joined_lookups, lookup_with, entries_below_with}
+use Rattle.buffer_rows.proofs.Paged.{at_least as past_is, under as below_is}
 
 -- ---- where an entry goes
 
@@ -191,12 +192,6 @@ request_step rs i d old new lt before is =
     is ∙ ap (λ es. entries_with key merged_request request_with_later es (get_or rs i d)) before
     ∙ sym (ap (entries_below key merged_request (key_bound key rs)) (take_more rs i d lt)
     ∙ entries_step key merged_request request_with_later merged_grows (key_bound key rs) (take i rs) (get_or rs i d) (below_bound key rs i d lt))
-
-below_is : (a b : ℕ) → nat_lt a b ≡ true → a < b
-below_is a b h = grind (arith, nat_tests)
-
-past_is : (a b : ℕ) → nat_lt a b ≡ false → b ≤ a
-past_is a b h = grind (arith, nat_tests)
 
 entered_if : (count : ℕ) (ls : List lookup_map_t) (l : lookup_map_t) (b : Bool) → nat_lt l.index count ≡ b
     → entries_below (λ k. k.index) joined_lookups count (ls ++ l ∷ [])

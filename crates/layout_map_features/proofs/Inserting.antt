@@ -127,9 +127,6 @@ no_last (y ∷ ys) h =
 pub last_below : {Y : Type 0} (key : Y → ℕ) (ys : List Y) (y : Y) (k : ℕ) → RisesFrom key 0 ys → slice_get ys (length ys - 1) ≡ Some y → key y < k → IsStart key ys k (length ys)
 last_below key ys y k h at lt = at_end key ys k h (above_read key ys y k at lt)
 
-pub without_last : {Y : Type 0} (key : Y → ℕ) (ys : List Y) (k : ℕ) → RisesFrom key 0 ys → slice_get ys (length ys - 1) ≡ None → IsStart key ys k (length ys)
-without_last key ys k h none = at_end key ys k h (λ d some. absurd (omega (arith, some, no_last ys none)))
-
 -- ---- values in a list, entered
 
 pub requests_are_in_order : (ms : List MergedRequest) (n : ℕ) (rs : List FeatureRequest) → entries_of (λ m. m.tag.0) ms ≡ entries_below (λ r. r.tag.0) merged_request n rs → RisesFrom (λ m. m.tag.0) 0 ms

@@ -12,12 +12,13 @@ use Rattle.layout_match.specs.declared.next_glyph.NextGlyph.TheVariants.{Missing
 use Rattle.layout_match.specs.Matches.{by_answer, nearest_from}
 use Rattle.layout_match.specs.Next.{Decides, IsAdmitted, IsNext}
 use Rattle.layout_match.specs.Searches.{Search, answer, has_mask, is_in_syllable, is_left_out, is_skippable, is_wanted}
-use Rattle.layout_match.proofs.Lemmas.Nearest.{ended_there, item_there, nearest_there, passed_there}
+use Rattle.layout_match.proofs.Lemmas.Nearest.{ended_there, nearest_there, passed_there}
+use Rattle.buffer_stages.proofs.Reversed.{got_strip as item_there}
 
 not_matched : (s : Search) (test : Item → Bool) (x : Item) → is_left_out s.props s.sets x ≡ false → is_wanted s test x ≡ false → is_skippable s x ≡ false → answer s test x ≡ NOT_MATCH
 not_matched s test x admitted other shown = rw (admitted, other, shown) refl
 
-untested : (p q t : Bool) → t ≡ false → (p && q && t) ≡ false
+pub untested : (p q t : Bool) → t ≡ false → (p && q && t) ≡ false
 untested true true t e = e
 untested true false t e = refl
 untested false q t e = refl

@@ -7,7 +7,7 @@ use Rattle.std.proofs.lemmas.Bool.Decides.{nat_tests, eqb_tells}
 use Rattle.std.proofs.lemmas.Int.{ints, int_wrap-add_same, int_wrap-add_left, int_wrap-sub_right}
 use Rattle.std.proofs.lemmas.List.{length-set}
 use Rattle.buffer_glyphs.specs.Items.{Position, zero_position}
-use Rattle.buffer_glyphs.specs.Lists.{get_or_mapped}
+use Rattle.buffer_glyphs.proofs.Lists.{get_or_mapped}
 use Rattle.buffer_common.specs.declared.direction.Direction.{Direction}
 use Rattle.buffer_common.specs.Direction.{is_forward, is_horizontal}
 use Rattle.layout_offsets.specs.declared.advance_sums.Pen.{Pen}
@@ -91,9 +91,6 @@ from_down a t e = e ∙ ap (int_wrap w32) (none t)
   where
     none : (t : ℤ) → pos 0 +ℤ t ≡ t
     none t = grind (arith, ints)
-
-as_sum : (a b : ℤ) → a -ℤ b ≡ (pos 0 -ℤ b) +ℤ a
-as_sum a b = omega (arith, ints)
 
 minus_same : (a a' b b' : ℤ) → int_wrap w32 a ≡ int_wrap w32 a' → int_wrap w32 b ≡ int_wrap w32 b' → int_wrap w32 (a -ℤ b) ≡ int_wrap w32 (a' -ℤ b')
 minus_same a a' b b' e f =
@@ -251,7 +248,7 @@ hung_seen d i j ps li lj =
 -- ---- all glyphs
 
 -- a glyph that is attached to another is there
-parent_within : (i j : ℕ) (ps : List Position) → parent i ps ≡ Some j → i < length ps
+pub parent_within : (i j : ℕ) (ps : List Position) → parent i ps ≡ Some j → i < length ps
 parent_within i j ps e = in_list ps i (λ none. absurd (let both : None ≡ Some j = sym (ap (link_target (length ps) i) (ap (λ (p : Position). p.attach_chain) none)) ∙ e in cc))
   where
     in_list : (xs : List Position) (k : ℕ) → (position_at k xs ≡ position_at 0 [] → ⊥) → k < length xs

@@ -5,7 +5,7 @@ use Rattle.std.specs.List.{fold}
 use Rattle.std.proofs.lemmas.Bool.Decides.{eqb_tells}
 use Rattle.std.proofs.lemmas.List.{map-set, length-set, get_or-set_same, set-get_or}
 use Rattle.buffer_glyphs.specs.Items.{Position, zero_position}
-use Rattle.buffer_glyphs.specs.Lists.{get_or_mapped}
+use Rattle.buffer_glyphs.proofs.Lists.{get_or_mapped}
 use Rattle.buffer_glyphs.specs.Lemmas.Origins.{slice_seen}
 use Rattle.buffer_common.specs.declared.direction.Direction.{Direction}
 use Rattle.buffer_common.specs.Direction.{is_forward, is_horizontal}
@@ -54,7 +54,7 @@ child_advances : (across : Bool) (q p : Position) → only_advances (child_drawn
 child_advances true q p = refl
 child_advances false q p = refl
 
-child_chain : (across : Bool) (q p : Position) → (child_drawn across q p).attach_chain ≡ p.attach_chain
+pub child_chain : (across : Bool) (q p : Position) → (child_drawn across q p).attach_chain ≡ p.attach_chain
 child_chain true q p = refl
 child_chain false q p = refl
 
@@ -101,7 +101,7 @@ final_elsewhere d recorded recorded' now i k p (Some j) long lt other same e apa
 parent_elsewhere : (i k : ℕ) (p : Position) (ps : List Position) → k ≢ i → parent k (set ps i p) ≡ parent k ps
 parent_elsewhere i k p ps other = ap (λ (n : ℕ). link_target n k (position_at k (set ps i p)).attach_chain) (length-set ps i p) ∙ ap (λ (q : Position). link_target (length ps) k q.attach_chain) (elsewhere i k p ps other)
 
-parent_none : (i : ℕ) (ps : List Position) → (position_at i ps).attach_chain ≡ pos 0 → parent i ps ≡ None
+pub parent_none : (i : ℕ) (ps : List Position) → (position_at i ps).attach_chain ≡ pos 0 → parent i ps ≡ None
 parent_none i ps e = ap (link_target (length ps) i) e
 
 parent_unlinked : (i : ℕ) (ps : List Position) → i < length ps → parent i (with_link_cleared i ps) ≡ None

@@ -4,7 +4,7 @@ use Rattle.std.specs.Prelude.{ℤ, pos, bit_and}
 use Rattle.std.proofs.lemmas.List.{take_at, length-map, length-set, set-get_or}
 use Rattle.std.proofs.lemmas.Nat.{and_assoc}
 use Rattle.buffer_glyphs.specs.Items.{Position, zero_position}
-use Rattle.buffer_glyphs.specs.Lists.{map_step}
+use Rattle.buffer_glyphs.proofs.Lists.{map_step}
 use Rattle.buffer_core.specs.Readings.{View, Read, always, with_events, Follows}
 use Rattle.buffer_core.specs.Lending.{refilled_list, with_positions_refilled}
 use Rattle.buffer_core.specs.Sides.{Sides, state_of, stage_flags, view_of}

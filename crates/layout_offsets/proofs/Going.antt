@@ -256,10 +256,6 @@ going_done goal count i at by ps g e draw =
     let none : count - i ≡ 0 = omega (arith, e) in
     going_ends draw (goal draw) count at by count ps (subst (λ (n : ℕ). IsGoing draw (goal draw) count 0 at by n ps) e (subst (λ (n : ℕ). IsGoing draw (goal draw) count n at by i ps) none (g draw)))
 
-pub going_here : (goal : Drawing → List Position) (count i at : ℕ) (by : ℤ) (ps : List Position)
-    → ((draw : Drawing) → IsGoing draw (goal draw) count (count - i) at by i ps) → Drawing → at < length ps
-going_here goal count i at by ps g draw = let w = (g draw).walk in let here = w.here in let long = w.long in omega (arith, here, long)
-
 pub goes_here : (to : ℕ) (link : ℤ) (at : ℕ) (by : ℤ) (ps qs : List Position) → StepsToParent to link at by ps qs → to < length qs
 goes_here to link at by ps qs goes =
     let there = linked_there (length ps) at (position_at at ps).attach_chain to goes.1 in

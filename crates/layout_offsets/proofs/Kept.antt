@@ -3,7 +3,7 @@ use Rattle.std.proofs.Common.{ℕ, zero, suc, pos, ◌≡◌, ◌≢◌, ◌≤�
 use Rattle.std.proofs.lemmas.Bool.Decides.{eqb_tells}
 use Rattle.std.proofs.lemmas.List.{length-map, length-set}
 use Rattle.buffer_glyphs.specs.Items.{Position, zero_position}
-use Rattle.buffer_glyphs.specs.Lists.{get_or_mapped}
+use Rattle.buffer_glyphs.proofs.Lists.{get_or_mapped}
 use Rattle.buffer_common.specs.declared.direction.Direction.{Direction}
 use Rattle.layout_offsets.specs.FollowedLinks.{with_link_cleared, drawn_position, with_parent_drawn, with_link_followed, with_links_followed_from, with_links_followed, has_kind, kind_tested, kinds_tested, finished_positions}
 use Rattle.layout_offsets.specs.Links.{position_at, parent, without_link}

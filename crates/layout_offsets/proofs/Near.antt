@@ -13,7 +13,7 @@ use Rattle.layout_offsets.proofs.Going.{followed_step, followed_none, elsewhere}
 use Rattle.layout_offsets.proofs.Drawings.{is_drawing}
 
 -- over any number of links a glyph without one stays
-stays : (draw : Drawing) (fuel j : ℕ) (ps : List Position) → (position_at j ps).attach_chain ≡ pos 0 → with_link_followed draw fuel j ps ≡ ps
+pub stays : (draw : Drawing) (fuel j : ℕ) (ps : List Position) → (position_at j ps).attach_chain ≡ pos 0 → with_link_followed draw fuel j ps ≡ ps
 stays draw zero j ps e = followed_none draw j ps
 stays draw (suc fuel) j ps e =
     let same : without_link (position_at j ps) ≡ position_at j ps = ap (λ (d : ℤ). record (position_at j ps) { attach_chain = d }) (sym e) in

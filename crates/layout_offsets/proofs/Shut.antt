@@ -4,7 +4,7 @@ use Rattle.std.specs.Prelude.{nat_lt}
 use Rattle.std.proofs.lemmas.Bool.Decides.{nat_tests}
 use Rattle.std.proofs.lemmas.List.{length-map, map-set, set-get_or}
 use Rattle.buffer_glyphs.specs.Items.{Position, zero_position}
-use Rattle.buffer_glyphs.specs.Lists.{get_or_mapped}
+use Rattle.buffer_glyphs.proofs.Lists.{get_or_mapped}
 use Rattle.buffer_common.specs.declared.direction.Direction.{Direction}
 use Rattle.buffer_common.specs.Direction.{is_forward, is_horizontal}
 use Rattle.layout_offsets.specs.FollowedLinks.{Drawing, with_link_cleared, offset_by, child_drawn, with_child_drawn}

@@ -4,7 +4,7 @@ use Rattle.std.specs.List.{list_any}
 use Rattle.std.proofs.lemmas.List.{get_or-append_right, get_or-drop, length-map, length-set, length-take-le, set-get_or, take_all}
 use Rattle.std.proofs.lemmas.List.Folds.{list_any_more}
 use Rattle.buffer_glyphs.specs.Items.{Position, zero_position}
-use Rattle.buffer_glyphs.specs.Lists.{get_or_mapped, map_step}
+use Rattle.buffer_glyphs.proofs.Lists.{get_or_mapped, map_step}
 use Rattle.buffer_common.specs.declared.direction.Direction.{Direction}
 use Rattle.layout_offsets.specs.FollowedLinks.{is_far_back, with_link_cleared, has_kind, kind_tested, kinds_tested, drawn_position, with_links_followed, finished_positions}
 use Rattle.layout_offsets.specs.Links.{position_at, without_link}

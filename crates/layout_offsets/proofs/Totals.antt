@@ -7,7 +7,7 @@ use Rattle.std.proofs.lemmas.Bool.Decides.{eqb_tells}
 use Rattle.std.proofs.lemmas.Int.{ints, int_wrap_fits, SFits-int_wrap, int_wrap-add_same}
 use Rattle.std.proofs.lemmas.List.{take-append-drop, drop-drop, length-map}
 use Rattle.buffer_glyphs.specs.Items.{Position, zero_position}
-use Rattle.buffer_glyphs.specs.Lists.{get_or_mapped}
+use Rattle.buffer_glyphs.proofs.Lists.{get_or_mapped}
 use Rattle.buffer_glyphs.specs.Lemmas.Origins.{slice_seen}
 use Rattle.buffer_common.specs.declared.direction.Direction.{Direction}
 use Rattle.buffer_common.specs.Direction.{is_forward, is_horizontal}

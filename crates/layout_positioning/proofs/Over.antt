@@ -19,6 +19,7 @@ use Rattle.layout_match.specs.Trying.{trials}
 use Rattle.layout_match.specs.Steps.{IsGivenUp, IsIdleRun, IsStep}
 use Rattle.layout_match.proofs.Lemmas.Passage.{IsUnderway, all_tried, begun, gone_on, gone_over}
 use Rattle.layout_positioning.specs.Lookups.{positioning_pass}
+use Rattle.buffer_core.proofs.Moved.{moved_to_all as moved_all}
 
 -- in a list within its limit a glyph more may be done
 pub room_closed : (r n : ℕ) (s : Sides) → n ≡ length (all_glyphs s) → n ≤ s.max_len → 0 < length s.ahead → nat_le (length (cut_with r s).front + 1) (cut_with r s).max_len ≡ true
@@ -79,9 +80,6 @@ over_refused act count r s now cause ready len some u given =
 -- without an output as many glyphs were read as stand behind the cursor
 read_at_front : (n : ℕ) (s : Sides) → n ≡ s.read + length s.ahead → n ≡ length (all_glyphs s) → (after_move_to 0 s).read ≡ 0
 read_at_front n s input count = let both = length-append s.behind s.ahead in omega (arith, input, count, both)
-
-moved_all : (at : ℕ) (s : Sides) → all_glyphs (after_move_to at s) ≡ all_glyphs s
-moved_all at s = take-append-drop at (all_glyphs s)
 
 -- a lookup that was tried everywhere, once the cursor is before all glyphs
 pub looked_over_done : (act : Action) (end count r : ℕ) (s now new : Sides) → IsReady s → count ≡ length (all_glyphs s) → length now.ahead ≡ 0 → IsUnderway act count r r s now → end ≡ now.read + length now.ahead → end ≡ length (all_glyphs now) → new ≡ after_move_to 0 now

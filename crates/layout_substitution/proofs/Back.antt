@@ -30,6 +30,7 @@ use Rattle.layout_match.specs.Trying.{after_outcome, meets, at_met}
 use Rattle.layout_substitution.specs.Lookups.{cut_at_index, backward_trials, backward_pass, reverse_action, first_reverse}
 use Rattle.layout_substitution.specs.Steps.{IsStepBack}
 use Rattle.layout_substitution.proofs.Blind.{IsBlind, drawing, leaving, first_blind, at_first_blind}
+use Rattle.buffer_core.proofs.Moved.{moved_to_all as moved_all}
 
 -- ---- reverse chaining draws nothing
 
@@ -66,9 +67,6 @@ reverse_blind : (a : ApplyContext) (lookup : SubstLookup) → IsBlind (reverse_a
 reverse_blind a lookup r c = at_first_blind (at_met a (first_reverse a lookup.subtables)) (first_of c.rest) (λ x. met_blind (meets a x) (first_reverse a lookup.subtables) (subtables_blind a lookup.subtables)) r c
 
 -- ---- one index
-
-moved_all : (at : ℕ) (s : Sides) → all_glyphs (after_move_to at s) ≡ all_glyphs s
-moved_all at s = take-append-drop at (all_glyphs s)
 
 moved_cut : (at r : ℕ) (s : Sides) → cut_with r (after_move_to at s) ≡ cut_at_index at (cut_with r s)
 moved_cut at r s = rw (← take-map, ← drop-map, ← map-append) refl

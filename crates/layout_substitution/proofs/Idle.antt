@@ -19,9 +19,6 @@ use Rattle.layout_match.proofs.Lemmas.Runs.{no_run, run_over, run_too_long}
 use Rattle.layout_substitution.specs.Lookups.{first_subtable, lookup_action, nested_actions}
 use Rattle.layout_substitution.proofs.Uncovered.{first_uncovered}
 
-pub lookup_no_run : (table : List SubstLookup) (a : ApplyContext) (lookup : SubstLookup) (s : Sides) → IsIdleRun (lookup_action table a lookup) s s
-lookup_no_run table a lookup s = no_run (lookup_action table a lookup) s
-
 pub lookup_run : (table : List SubstLookup) (a : ApplyContext) (lookup : SubstLookup) (k : ℕ) (s new : Sides) → k ≤ length s.ahead → list_any (λ (x : Item). meets a x && substitution_covers lookup.subtables x.number) (take k (strip s.ahead)) ≡ false → s.is_open ≡ true → fits_next k s ≡ true → new ≡ after_next_glyphs k s
     → IsIdleRun (lookup_action table a lookup) s new
 lookup_run table a lookup k s new within idle opened fits moved =

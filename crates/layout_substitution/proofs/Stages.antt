@@ -42,9 +42,6 @@ refused_at font table o lookup m a q r old cause there of same e =
     let P : Option SubstLookup → Type 0 = λ p. reading_of (lookup_stage font table p m) (state_with r old) ≡ Err cause in
     subst P there (subst A of (subst R same e))
 
-pub other_does : {X : Type 0} (b : Bool) (back forth : Stage) (result : Result X ShapeCause) (r after : ℕ) (old new : Sides) → b ≡ false → DoesGlyphStageFrom r after forth result old new → DoesGlyphStageFrom r after (λ v. if b then back v else forth v) result old new
-other_does b back forth result r after old new fails d = let P : Bool → Type 0 = λ p. DoesGlyphStageFrom r after (λ v. if p then back v else forth v) result old new in subst P (sym fails) d
-
 -- some lookups were done; whatever follows, or is refused, by those that are left is so by all
 pub record AreDone (font : FaceParts) (table : List SubstLookup) (all left : List lookup_map_t) (before r : ℕ) (old now : Sides) : Type 0 where
   pub ready : IsReady now
@@ -112,19 +109,3 @@ all_done font table all k before r old now le a =
     }
 
 -- ---- a state of their own
-
--- of the state from which alternates were drawn nothing is left
-pub own_done : (stage : Stage) (after : ℕ) (old new : Sides) → IsDoneFrom 1 after stage old new → IsDone (with_own_random stage) old new
-own_done stage after old new d = record {
-  follows = follows_then (reading_of stage (state_with 1 old)) (always (λ (w : View). with_events [] (record w { random = 1 }))) (state_of old) (state_with after new) (state_of new) d.follows refl;
-  settings = d.settings;
-  ready = d.ready;
-  numbers = d.numbers;
-}
-
-pub own_refused : (stage : Stage) (old : Sides) (cause : ShapeCause) → reading_of stage (state_with 1 old) ≡ Err cause → reading_of (with_own_random stage) (state_of old) ≡ Err cause
-own_refused stage old cause e = refused_first (reading_of stage (state_with 1 old)) (always (λ (w : View). with_events [] (record w { random = 1 }))) cause e
-
-pub own_does : {X : Type 0} (stage : Stage) (result : Result X ShapeCause) (after : ℕ) (old new : Sides) → DoesGlyphStageFrom 1 after stage result old new → DoesGlyphStage (with_own_random stage) result old new
-own_does stage (Ok x) after old new d = own_done stage after old new d
-own_does stage (Err e) after old new d = λ h. own_refused stage old e (d h)

@@ -11,6 +11,7 @@ use Rattle.buffer_rows.specs.Pages.{IsStart}
 use Rattle.layout_tables.specs.declared.pair.PairRow.{PairRow}
 use Rattle.layout_tables.specs.Pairs.{glyph_pair_values, row_of_glyphs}
 use Rattle.layout_tables.specs.PairRows.{AreBetween, AreStarts, pair_order, pairs_rise, rows_of_first, second_values}
+use Rattle.buffer_rows.proofs.Paged.{was_or_is}
 
 abbrev pub first_of : PairRow → ℕ
 first_of r = r.first
@@ -149,11 +150,6 @@ none_last (r ∷ rows) first last h =
 
 pub no_starts : (rows : List PairRow) (first : ℕ) → AreStarts rows [] first
 no_starts rows first = λ k start e. cc
-
-was_or_is : (xs : List ℕ) (x i y : ℕ) → slice_get (xs ++ x ∷ []) i ≡ Some y → i < length xs → slice_get xs i ≡ Some y
-was_or_is [] x i y h lt = absurd (omega (arith, lt))
-was_or_is (z ∷ zs) x zero y h lt = h
-was_or_is (z ∷ zs) x (suc i) y h lt = was_or_is zs x i y h (omega (arith, lt))
 
 last_one : (xs : List ℕ) (x i y : ℕ) → slice_get (xs ++ x ∷ []) i ≡ Some y → length xs ≤ i → (i ≡ length xs) × (y ≡ x)
 last_one [] x zero y h le = (refl, cc)

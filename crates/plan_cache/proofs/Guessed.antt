@@ -43,12 +43,6 @@ guessed_twice s =
 pub guessed_again : (s t : Sides) → t ≡ after_guess_segment_properties s → after_guess_segment_properties t ≡ t
 guessed_again s t is = ap after_guess_segment_properties is ∙ guessed_twice s ∙ sym is
 
--- a text that has characters as it was guessed has some
-pub some_guessed : (s t : Sides) → t ≡ after_guess_segment_properties s → (length (all_glyphs t) == 0) ≡ false → all_glyphs s ≢ []
-some_guessed s t is some none =
-    let empty : (length (all_glyphs t) == 0) ≡ true = ap (λ (x : Sides). length (all_glyphs x) == 0) is ∙ ap (λ (gs : List hb_glyph_info_t). length gs == 0) none in
-    cc
-
 -- a text stays one
 pub text_guessed : (s t : Sides) → t ≡ after_guess_segment_properties s → IsText s → IsText t
 text_guessed s t is text = subst IsText (sym is) (record { closed = text.closed; unrefused = text.unrefused; characters = text.characters })

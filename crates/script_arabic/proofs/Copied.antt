@@ -15,30 +15,6 @@ use Rattle.buffer_stages.specs.Walks.{RefusesLength, HasWalked}
 use Rattle.buffer_stages.proofs.Lemmas.Walked.{both_walked, nothing_walked}
 use Rattle.script_arabic.specs.Copying.{copy_events}
 
--- a copy of the glyph at the cursor
-pub copy_walked : (n : ℕ) (g : hb_glyph_info_t) (x : Item) (xs : List Item) (s new : Sides) → s.is_open ≡ true → slice_get s.ahead 0 ≡ Some g → n ≡ g.glyph_id → new ≡ with_output_glyph n s
-    → origins_of new ≡ origins_by (Replace (length s.behind) 0 1 ∷ []) s → strip s.ahead ≡ x ∷ xs → HasWalked (strip s.behind ++ x ∷ []) (x ∷ xs) (Replace (length s.behind) 0 1 ∷ []) s new
-copy_walked n g x xs s new opened at same is from seen = by_ahead s.ahead refl
-  where
-    by_ahead : (hs : List hb_glyph_info_t) → s.ahead ≡ hs → HasWalked (strip s.behind ++ x ∷ []) (x ∷ xs) (Replace (length s.behind) 0 1 ∷ []) s new
-    by_ahead [] e = cc
-    by_ahead (h ∷ hs) e =
-        let k : h ≡ g = (let got : slice_get (h ∷ hs) 0 ≡ Some g = ap (λ (ys : List hb_glyph_info_t). slice_get ys 0) (sym e) ∙ at in cc) in
-        let first : item_of h ≡ x = (let both : item_of h ∷ strip hs ≡ x ∷ xs = ap strip (sym e) ∙ seen in cc) in
-        let number : n ≡ h.glyph_id = same ∙ ap (λ (q : hb_glyph_info_t). q.glyph_id) (sym k) in
-        let now : new ≡ with_behind (s.behind ++ h ∷ []) s =
-        is ∙ ap (λ m. with_output_glyph m s) number ∙ ap (λ (ys : List hb_glyph_info_t). with_behind (s.behind ++ numbered_copies glyph_numbered (or (first_of ys) (last_of s.behind)) (h.glyph_id ∷ [])) s) e in
-        subst (λ (t : Sides). origins_of t ≡ origins_by (Replace (length s.behind) 0 1 ∷ []) s → HasWalked (strip s.behind ++ x ∷ []) (x ∷ xs) (Replace (length s.behind) 0 1 ∷ []) s t) (sym now)
-        (λ o. record {
-          behind = map-append item_of s.behind (h ∷ []) ∙ ap (λ y. strip s.behind ++ y ∷ []) first;
-          ahead = seen;
-          happened = o;
-          view = refl;
-          settings = refl;
-          opened = opened;
-          unrefused = refl;
-        }) from
-
 -- a call refuses at a length that others reach too
 pub exceeds_more : (m n : ℕ) (e : ShapeCause) (s t : Sides) → t.max_len ≡ s.max_len → m ≤ n → RefusesLength m e t → RefusesLength n e s
 exceeds_more m n e s t same le h = λ other. let o = h other in let past = o.1 in (o.0, omega (arith, past, same, le))

@@ -7,9 +7,6 @@ use Rattle.buffer_glyphs.specs.Items.{Position}
 use Rattle.script_arabic.specs.declared.tile.Tile.{Tile}
 use Rattle.script_arabic.specs.TilePositions.{begin, begins_at, copy_positions, copy_begin, all_positions, tile_positions, tile_at}
 
-pub first_laid : (p q : Position) (t : Tile) (at : ℤ) (out new : List Position) → q ≡ tile_at p (copy_begin t at 0) → new ≡ out ++ q ∷ [] → new ≡ out ++ reverse (copy_positions p t at 0)
-first_laid p q t at out new e f = f ∙ ap (λ r. out ++ r ∷ []) e
-
 -- one copy more
 pub next_laid : (p q : Position) (t : Tile) (at : ℤ) (n : ℕ) (out before new : List Position) → before ≡ out ++ reverse (copy_positions p t at n) → q ≡ tile_at p (copy_begin t at (n + 1)) → new ≡ before ++ q ∷ [] → new ≡ out ++ reverse (copy_positions p t at (n + 1))
 next_laid p q t at n out before new h e f =

@@ -19,9 +19,7 @@ use Rattle.script_syllabic.proofs.RangesBetween.{changed_between, moved_between,
 use Rattle.script_arabic.specs.Marks as arabic
 use Rattle.script_arabic.specs.MarkOrder.{arabic_order, leading_first, leading_marks}
 use Rattle.script_arabic.proofs.MarkCounts.{leads_within, leading_length}
-
-further : (n m i : ℕ) → n + (m + i) ≡ n + m + i
-further n m i = omega arith
+use Rattle.buffer_stages.specs.Lemmas.Shifts.{shift_events, shift_event, further}
 
 moved_size : (below leading : ℕ) (run : List Item) → below + leading ≤ length run → length (with_range_moved 0 below leading run) ≡ length run
 moved_size below leading run le = moved_length 0 below leading run (omega (arith, le))
@@ -71,27 +69,6 @@ leading_between class new start end front run rest v e at last =
     let same : arabic.with_leading class new start end v ≡ arabic.with_leading_marks new start (arabic.count_below class run) (arabic.count_leading class run) v =
     ap (λ xs. arabic.with_leading_marks new start (arabic.count_below class xs) (arabic.count_leading class xs) v) seen in
     (ap (λ (r : Read). r.view) same ∙ l.view, λ level. ap (λ (r : Read). r.events level) same ∙ l.events level)
-
-shift_event : (n m : ℕ) (e : Event) → shifted_event n (shifted_event m e) ≡ shifted_event (n + m) e
-shift_event n m (Merge how from to) = rw (further n m from, further n m to) refl
-shift_event n m (MergeGrapheme from to) = rw (further n m from, further n m to) refl
-shift_event n m (Replace at taken given) = rw (further n m at) refl
-shift_event n m (Circle after beside like) = rw (further n m beside, further n m like) refl
-shift_event n m (Delete at) = rw (further n m at) refl
-shift_event n m (Move how from order) = rw (further n m from) refl
-shift_event n m (Arrange from order) = rw (further n m from) refl
-shift_event n m (Sort from order) = rw (further n m from) refl
-shift_event n m Reverse = refl
-shift_event n m (Break from to) = rw (further n m from, further n m to) refl
-shift_event n m (Concat from to) = rw (further n m from, further n m to) refl
-shift_event n m (Tatweel from to) = rw (further n m from, further n m to) refl
-shift_event n m (StrictBreak from to) = rw (further n m from, further n m to) refl
-shift_event n m Spread = refl
-shift_event n m Reset = refl
-
-shift_events : (n m : ℕ) (es : List Event) → map (shifted_event n) (map (shifted_event m) es) ≡ map (shifted_event (n + m)) es
-shift_events n m [] = refl
-shift_events n m (e ∷ es) = rw (shift_event n m e, shift_events n m es) refl
 
 pub arabic_rearranges : (start end : ℕ) (a b : Sides) (front run rest : List Item) → IsReady a → IsFollowed (always (arabic.marks_reordered start end)) a b → items_of a ≡ front ++ (run ++ rest) → length front ≡ start → start + length run ≡ end
     → IsRearranged front (arabic_order run) rest a b

@@ -27,7 +27,7 @@ pub any_seen : (gs : List hb_glyph_info_t) → list_any (λ (g : hb_glyph_info_t
 any_seen [] = refl
 any_seen (g ∷ gs) = ap (λ b. is_tile (item_of g) || b) (any_seen gs)
 
-no_runs : (font : FaceParts) (w : ℤ) (xs : List Item) (ps : List Position) → list_any is_tile xs ≡ false → length ps ≡ length xs → runs font (Word w) xs ps ≡ replicate (length xs) None
+pub no_runs : (font : FaceParts) (w : ℤ) (xs : List Item) (ps : List Position) → list_any is_tile xs ≡ false → length ps ≡ length xs → runs font (Word w) xs ps ≡ replicate (length xs) None
 no_runs font w [] ps e long = refl
 no_runs font w (x ∷ xs) [] e long = absurd (omega (arith, long))
 no_runs font w (x ∷ xs) (p ∷ ps) e long =
@@ -36,23 +36,23 @@ no_runs font w (x ∷ xs) (p ∷ ps) e long =
     let b : next_before font (Word w) (x ∷ xs) p ≡ Word v = ap (λ t. if t then Tiles (run_here font (Word w) (x ∷ xs)) else Word v) n.0 in
     ap (λ q. tile_run q ∷ runs font q xs ps) b ∙ ap (λ rs. None ∷ rs) (no_runs font v xs ps n.1 (omega (arith, long)))
 
-none_in_range : (n : ℕ) → list_all is_in_range (replicate n None) ≡ true
+pub none_in_range : (n : ℕ) → list_all is_in_range (replicate n None) ≡ true
 none_in_range zero = refl
 none_in_range (suc n) = none_in_range n
 
-no_tiles : (font : FaceParts) (xs : List Item) → tiles font xs (replicate (length xs) None) ≡ replicate (length xs) None
+pub no_tiles : (font : FaceParts) (xs : List Item) → tiles font xs (replicate (length xs) None) ≡ replicate (length xs) None
 no_tiles font [] = refl
 no_tiles font (x ∷ xs) = ap (λ ts. None ∷ ts) (no_tiles font xs)
 
-none_copied : (xs : List Item) → with_tile_copies xs (replicate (length xs) None) ≡ xs
+pub none_copied : (xs : List Item) → with_tile_copies xs (replicate (length xs) None) ≡ xs
 none_copied [] = refl
 none_copied (x ∷ xs) = ap (λ ys. x ∷ ys) (none_copied xs)
 
-none_laid : (ps : List Position) → all_positions ps (replicate (length ps) None) ≡ ps
+pub none_laid : (ps : List Position) → all_positions ps (replicate (length ps) None) ≡ ps
 none_laid [] = refl
 none_laid (p ∷ ps) = ap (λ qs. p ∷ qs) (none_laid ps)
 
-no_events : (at n : ℕ) → events_from at (replicate n None) ≡ []
+pub no_events : (at n : ℕ) → events_from at (replicate n None) ≡ []
 no_events at zero = refl
 no_events at (suc n) = no_events (at + 1) n
 

@@ -18,6 +18,7 @@ use Rattle.script_arabic.specs.declared.stretch.WordWalk.{WordWalk}
 use Rattle.script_arabic.specs.Words.{is_of_word}
 use Rattle.script_arabic.specs.Tiles.{is_tile}
 use Rattle.script_arabic.specs.Stretch.{stretch_event, stretch_event_at, stretch_events, text_stretch_events, word_past, word_start}
+use Rattle.script_joining.proofs.Marked.{some_same, there_suc}
 
 -- ---- one word
 
@@ -129,14 +130,6 @@ same_items es from s h = ap (λ (v : View). v.items) h.view
 pub many_as_before : (es : List Event) (from s : Sides) → Happens es from s → length (all_glyphs s) ≡ length (all_glyphs from)
 many_as_before es from s h = sym (length-map (all_glyphs s) item_of) ∙ ap (λ (xs : List Item). length xs) (same_items es from s h) ∙ length-map (all_glyphs from) item_of
 
-some_same : {X : Type 0} (a b : X) → Some a ≡ Some b → b ≡ a
-some_same a b e = cc
-
-there_suc : {X : Type 0} (xs : List X) (i : ℕ) (x : X) → Some x ≡ slice_get xs i → drop i xs ≡ x ∷ drop (suc i) xs
-there_suc [] i x e = cc
-there_suc (y ∷ xs) zero x e = ap (λ z. z ∷ xs) (sym (some_same y x (sym e)))
-there_suc (y ∷ xs) (suc i) x e = there_suc xs i x e
-
 start_begun : (b t : Bool) (start at : ℕ) → start ≤ at → start_if b t start at ≤ at + 1
 start_begun true true start at le = omega arith
 start_begun true false start at le = omega (arith, le)
@@ -163,9 +156,3 @@ next_word from s t at w x e h f =
           ∙ ap (λ ls. f.events ++ ls) cut
           ∙ f.rest;
     }
-
-pub all_words : (from s new : Sides) (at count : ℕ) (w : WordWalk) → at ≡ count → length (all_glyphs from) ≤ count → Happens (stretch_event w count) s new → AreWordsFlagged from at w s → Happens (text_stretch_events (items_of from)) from new
-all_words from s new at count w same le h f =
-    let none : drop at (items_of from) ≡ [] = drop_all at (items_of from) (omega (arith, length-map (all_glyphs from) item_of, le, same)) in
-    let last : Happens (stretch_event w at) s new = subst (λ k. Happens (stretch_event w k) s new) (sym same) h in
-    subst (λ es. Happens es from new) (ap (λ xs. f.events ++ stretch_events w at xs) (sym none) ∙ f.rest) (both_happen f.events (stretch_event w at) from s new f.happened last)

@@ -140,7 +140,7 @@ fn set_classes(glyphs: &mut [hb_glyph_info_t], from: usize, to: usize, class: u8
     set_class(&mut glyphs[from..to], class);
 }
 
-#[tactic(auto, using(buffer_glyphs::specs::Lists::map_step))]
+#[tactic(auto, using(buffer_glyphs::proofs::Lists::map_step))]
 fn set_class(glyphs: &mut [hb_glyph_info_t], class: u8)
     ensures { glyphs.new ≡ map (glyph_classed class) glyphs.old }
 {

@@ -4,11 +4,8 @@ use Rattle.std.proofs.lemmas.Option.{slice_get-get_or}
 use Rattle.std.proofs.lemmas.Bool.{and_parts, cond-true, cond-false}
 use Rattle.std.proofs.lemmas.Bool.Decides.{nat_tests}
 use Rattle.buffer_unicode.specs.Keys.{is_at, is_below, is_rising, precedes, rises_after}
-use Rattle.buffer_unicode.proofs.Searches.{first_rises, forget_first}
+use Rattle.buffer_unicode.proofs.Searches.{first_rises, forget_first, below_trans}
 use Rattle.script_categories.specs.Gaps.{stands_after, stands_before}
-
-below_trans : (a b c d e f : ℕ) → is_below a b c d ≡ true → is_below c d e f ≡ true → is_below a b e f ≡ true
-below_trans a b c d e f p q = grind (arith, nat_tests)
 
 apart_above : (a b h l : ℕ) → is_below h l a b ≡ true → (a == h && b == l) ≡ false
 apart_above a b h l p = grind (arith, nat_tests)

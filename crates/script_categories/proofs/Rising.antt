@@ -10,17 +10,7 @@ use Rattle.script_categories.specs.declared.machine.Accept.{Accept}
 use Rattle.script_categories.specs.declared.machine.Step.{Step}
 use Rattle.buffer_unicode.specs.Keys.{follows, rises_after, row_fault}
 use Rattle.buffer_unicode.specs.declared.fault.TablesFault.{TablesFault}
-
-rises_from : {R : Type 0} (in_range : R → Bool) (high low : R → ℕ) (before : Option R) (rows : List R)
-    → row_fault in_range high low before rows ≡ None → rises_after high low before rows ≡ true
-rises_from in_range high low before [] h = refl
-rises_from in_range high low before (r ∷ rs) h =
-    cond_both (in_range r) _ _ (λ o. o ≡ None → rises_after high low before (r ∷ rs) ≡ true)
-    (λ _. cond_both (follows high low before r) _ _ (λ o. o ≡ None → rises_after high low before (r ∷ rs) ≡ true)
-    (λ above e. and_from _ _ above (rises_from in_range high low (Some r) rs e))
-    (λ _ e. cc))
-    (λ _ e. cc)
-    h
+use Rattle.buffer_unicode.proofs.Faults.{rises_from}
 
 -- of two faults neither is there
 record AreNone (a b : Option TablesFault) : Type 0 where

@@ -20,7 +20,7 @@ either : (t : Bool) (a b : Action) (n : ℕ) → fits_rest a n ≡ true → fits
 either true a b n e f = e
 either false a b n e f = f
 
-some_there : (n : ℕ) → 0 < n → nat_lt 0 n ≡ true
+pub some_there : (n : ℕ) → 0 < n → nat_lt 0 n ≡ true
 some_there n lt = grind (arith, nat_tests, lt)
 
 letters_fit : (font : FaceParts) (o : Option ℕ) (k n : ℕ) → 2 ≤ k → k ≤ 3 → k ≤ n → fits_rest (letters_action font o k) n ≡ true
@@ -104,10 +104,6 @@ apart_is_two k n f ne = grind (arith, nat_tests, f, ne)
 pub joined_there : (letters : Letters) (joins : Bool) (n : ℕ) → joins ≡ true → fits_rest (Split letters joins) n ≡ true → (1 < n) × (is_two letters ≡ true)
 joined_there letters false n j f = absurd (let bad = j in cc)
 joined_there letters true n j f = let both = and_parts (nat_lt 1 n) (is_two letters) f in (grind (arith, nat_tests, both.0), both.1)
-
-pub split_there : (letters : Letters) (joins : Bool) (n : ℕ) → fits_rest (Split letters joins) n ≡ true → 0 < n
-split_there letters true n f = let more = (joined_there letters true n refl f).0 in omega (arith, more)
-split_there letters false n f = grind (arith, nat_tests, f)
 
 -- so does what becomes of the front of a rest
 pub front_fits : (font : FaceParts) (u n : ℕ) (xs : List Item) → length xs ≡ n → 0 < n → fits_rest (action_on font u (character_at 1 xs) (character_at 2 xs)) n ≡ true

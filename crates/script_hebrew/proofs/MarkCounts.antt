@@ -7,7 +7,7 @@ use Rattle.buffer_stages.specs.Lemmas.Moves.{moved_length}
 use Rattle.script_hebrew.specs.Hebrew.{begins_with_three, first_three}
 use Rattle.script_hebrew.specs.MarkOrder.{with_marks_swapped, HebrewOrderIsSteady, HebrewOrderKeepsCount}
 
-three_there : (xs : List Item) → begins_with_three xs ≡ true → 3 ≤ length xs
+pub three_there : (xs : List Item) → begins_with_three xs ≡ true → 3 ≤ length xs
 three_there [] e = cc
 three_there (x ∷ []) e = cc
 three_there (x ∷ y ∷ []) e = cc

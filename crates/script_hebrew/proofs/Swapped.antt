@@ -13,6 +13,7 @@ use Rattle.buffer_stages.specs.Stages.{IsFollowed}
 use Rattle.buffer_stages.specs.Moves.{with_move}
 use Rattle.script_hebrew.specs.Hebrew.{begins_with_three, first_three, with_swapped}
 use Rattle.script_hebrew.specs.Neighbours.{IsThreeWithin}
+use Rattle.script_hebrew.proofs.MarkCounts.{three_there}
 
 pub part_seen : (gs : List hb_glyph_info_t) (start end : ℕ) → strip (slice_range gs start end) ≡ slice_range (strip gs) start end
 part_seen gs start end = slice_seen item_of start end gs
@@ -60,12 +61,6 @@ next_missed at gs b e f m =
 hit : (hs : List hb_glyph_info_t) → begins_with_three (strip hs) ≡ true → first_three (strip hs) ≡ Some 0
 hit [] e = cc
 hit (h ∷ hs) e = ap (λ b. if b then Some 0 else option_map (λ n. n + 1) (first_three (strip hs))) e
-
-three_there : (xs : List Item) → begins_with_three xs ≡ true → 3 ≤ length xs
-three_there [] e = cc
-three_there (x ∷ []) e = cc
-three_there (x ∷ y ∷ []) e = cc
-three_there (x ∷ y ∷ z ∷ xs) e = omega arith
 
 pub met_three : (at : ℕ) (gs : List hb_glyph_info_t) → begins_with_three (strip (drop at gs)) ≡ true → NoneMet at gs → (Some at ≡ first_three (strip gs)) × (0 + (at + 3) ≤ length gs)
 met_three at gs e m =

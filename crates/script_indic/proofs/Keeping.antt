@@ -5,7 +5,7 @@ use Rattle.buffer_unicode_tables.specs.Tables.{Tables}
 use Rattle.buffer_glyphs.specs.Items.{Item}
 use Rattle.buffer_glyphs.specs.Events.{StrictBreak}
 use Rattle.buffer_glyphs.specs.Rewriting.{Arrangement, and_arranged, eventless_arrangement, shifted_event}
-use Rattle.buffer_lists.specs.Lemmas.OrderSpans.{order_stays}
+use Rattle.buffer_lists.proofs.Lemmas.OrderSpans.{order_stays}
 use Rattle.buffer_parts.specs.Plainly.{AreSteady}
 use Rattle.buffer_parts.specs.Lemmas.Plainly.{both_steady}
 use Rattle.buffer_stages.specs.Ordering.{groups_reversed, auxiliary_order}
@@ -14,7 +14,7 @@ use Rattle.buffer_stages.specs.Rewriting.{by_syllable, each_rewritten, in_syllab
 use Rattle.buffer_stages.specs.SyllableLaws.{IsPermuted}
 use Rattle.buffer_stages.specs.Lemmas.Numbers.{same_numbers, syllables_permute, then_permutes}
 use Rattle.buffer_parts.specs.PlainStages.{KeepsPlainly}
-use Rattle.buffer_parts.specs.Lemmas.PlainStages.{IsSteady, mapped_plainly, rule_plainly, same_plainly, then_steady, within_steady}
+use Rattle.buffer_parts.specs.Lemmas.PlainStages.{IsSteady, mapped_plainly, rule_plainly, same_plainly, then_steady, within_steady, each_steady}
 use Rattle.buffer_parts.specs.Lemmas.Steady.{shifted_steady}
 use Rattle.script_categories.specs.declared.shaper.hb_ot_script_shaper_t.TheVariants.{INDIC_SHAPER}
 use Rattle.script_categories.specs.Shapers.{is_reordered}
@@ -25,7 +25,7 @@ use Rattle.script_indic_reordering.specs.Final.{RephMoved, after_halant, base_pa
 use Rattle.script_indic_reordering.specs.Glyphs.{is_consonant, is_matra, with_position}
 use Rattle.script_indic_reordering.specs.Initial.{all_placed, first_left, has_two_matras, initial_reordered, left_count, masks_set, matras_reversed, pref_pair}
 use Rattle.script_indic_reordering.specs.Orders.{consonant_position, consonant_with_position, final_order, final_syllable, if_reordered, init_masked, initial_syllable}
-use Rattle.script_indic_reordering.specs.Lemmas.FinalPermuted.{final_syllable_permutes, words_numbers}
+use Rattle.script_indic_reordering.proofs.Lemmas.FinalPermuted.{final_syllable_permutes, words_numbers}
 use Rattle.script_indic.specs.Categories.{properties_set, with_properties}
 use Rattle.script_indic.specs.Reordering.{consonants_updated, final_stage}
 
@@ -131,10 +131,6 @@ finally_steady reph_pos pref xs =
 -- the final reordering of a syllable permutes glyphs only where it merges them
 pub final_steady : (reph_pos : ℕ) (m : IndicMasks) (xs : List Item) → IsSteady (final_syllable reph_pos m xs)
 final_steady reph_pos m xs = if_reordered_steady (final_reordered reph_pos m.pref) (finally_steady reph_pos m.pref) xs (slice_get xs 0)
-
-each_steady : (rule : List Item → Arrangement) → ((ys : List Item) → IsSteady (rule ys)) → (xss : List (List Item)) → IsSteady (each_rewritten rule xss)
-each_steady rule p [] = tt
-each_steady rule p (xs ∷ xss) = both_steady (rule xs).events (map (shifted_event (length (rule xs).items)) (each_rewritten rule xss).events) (p xs) (shifted_steady (length (rule xs).items) (each_rewritten rule xss).events (each_steady rule p xss))
 
 words_steady : (before : Option Item) (at : ℕ) (xs : List Item) → AreSteady (word_events (is_reordered INDIC_SHAPER) before at xs)
 words_steady before at [] = tt

@@ -8,10 +8,7 @@ use Rattle.layout_map.specs.Compiled.{OtMapValue}
 use Rattle.script_indic.specs.FontForms.{is_formed}
 use Rattle.script_indic.specs.WouldSubstitute.{any_would, lookups_at_stage}
 use Rattle.script_indic.specs.declared.would_substitute.IndicWouldSubstituteFeature.{IndicWouldSubstituteFeature}
-
-none_after : (t : Bool) → (t && false) ≡ false
-none_after true = refl
-none_after false = refl
+use Rattle.layout_face.proofs.Fitting.{none as none_after}
 
 without_stage : (stage : Option ℕ) (t zero : Bool) (m : OtMapValue) (font : FaceParts) (ns : List ℕ) → is_none stage ≡ true
     → (t && any_would font ns zero (lookups_at_stage stage m)) ≡ false

@@ -5,10 +5,7 @@ use Rattle.std.specs.List.{list_any}
 use Rattle.buffer_unicode_tables.specs.Expansion.{EndWithin, ends_by, ends_within}
 use Rattle.buffer_unicode_tables.specs.Tables.{Tables, split_of}
 use Rattle.script_indic.specs.Characters.{indic_split, whole_letters}
-
-more_end : (f g : ℕ → Bool) → ((a : ℕ) → f a ≡ true → g a ≡ true) → (o : Option (ℕ × ℕ)) → ends_by f o ≡ true → ends_by g o ≡ true
-more_end f g more None e = refl
-more_end f g more (Some (a, b)) e = more a e
+use Rattle.buffer_unicode_tables.proofs.Chains.{ends_by_more as more_end}
 
 chain_ends : (t : Tables) (depth u : ℕ) → ends_within (split_of t) depth u ≡ true → ends_within (indic_split t) depth u ≡ true
 unfolding ends_within

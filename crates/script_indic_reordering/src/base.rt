@@ -68,7 +68,7 @@ fn search_start(glyphs: &[hb_glyph_info_t], count: usize) -> usize
 }
 
 /// The last index from one on where a ZWJ follows a halant.
-#[tactic(auto, using(crate::specs::Lemmas::Walks::joined_begun, crate::specs::Lemmas::Walks::joined_next, crate::specs::Lemmas::Walks::joined_found, crate::specs::Lemmas::Walks::joined_none))]
+#[tactic(auto, using(crate::proofs::Lemmas::Walks::joined_begun, crate::proofs::Lemmas::Walks::joined_next, crate::proofs::Lemmas::Walks::joined_found, crate::proofs::Lemmas::Walks::joined_none))]
 fn last_joined(glyphs: &[hb_glyph_info_t], from: usize) -> Option<usize>
     requires { from ≤ length glyphs.now }
     ensures value { result ≡ last_at ends_search from (drop from (strip glyphs.now)) }
@@ -85,7 +85,7 @@ fn last_joined(glyphs: &[hb_glyph_info_t], from: usize) -> Option<usize>
 }
 
 /// Whether a halant stands at an index, and a ZWJ after it.
-#[tactic(auto, using(crate::specs::Lemmas::Walks::last_joins_none, crate::specs::Lemmas::Walks::two_join))]
+#[tactic(auto, using(crate::proofs::Lemmas::Walks::last_joins_none, crate::proofs::Lemmas::Walks::two_join))]
 fn joins(glyphs: &[hb_glyph_info_t], i: usize) -> bool
     requires { i < length glyphs.now }
     ensures value { result ≡ ends_search (drop i (strip glyphs.now)) }
@@ -104,7 +104,7 @@ fn are_joined(glyph: &hb_glyph_info_t, next: &hb_glyph_info_t) -> bool
 }
 
 /// The last consonant from an index on that may be the base, else the first.
-#[tactic(auto, using(crate::specs::Lemmas::Walks::seeking_begun, crate::specs::Lemmas::Walks::seeking_found, crate::specs::Lemmas::Walks::seeking_next, crate::specs::Lemmas::Walks::seeking_done, crate::specs::Lemmas::Walks::seeking_within))]
+#[tactic(auto, using(crate::proofs::Lemmas::Walks::seeking_begun, crate::proofs::Lemmas::Walks::seeking_found, crate::proofs::Lemmas::Walks::seeking_next, crate::proofs::Lemmas::Walks::seeking_done, crate::proofs::Lemmas::Walks::seeking_within))]
 fn base_from(glyphs: &[hb_glyph_info_t], from: usize) -> Option<usize>
     requires { from ≤ length glyphs.now }
     ensures value { result ≡ base_from from (drop from (strip glyphs.now)) }

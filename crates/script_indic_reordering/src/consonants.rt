@@ -30,7 +30,7 @@ pub(crate) struct KnownForm {
 
 /// Gives each consonant the position below the base or after it where the font has such a form of the consonant with a
 /// virama before or after it. It takes linear time, but for the font's answers.
-#[tactic(auto, using(buffer_stages::specs::Lemmas::Written::mapped_followed, crate::specs::Lemmas::KnownForms::none_known))]
+#[tactic(auto, using(buffer_stages::specs::Lemmas::Written::mapped_followed, crate::proofs::Lemmas::KnownForms::none_known))]
 pub fn update_consonant_positions<F: IndicForms>(forms: &F, virama: u32, buffer: &mut hb_buffer_t)
     requires ready { IsReady buffer.old }
     ensures { IsFollowed (always (with_items_mapped (consonant_with_position (F.forms_of forms.now) virama))) buffer.old buffer.new }
@@ -58,7 +58,7 @@ fn update_each<F: IndicForms>(
 }
 
 /// Gives a consonant the position of its forms, if the font has some. No other glyph is written.
-#[tactic(auto, using(crate::specs::Lemmas::KnownForms::other_item))]
+#[tactic(auto, using(crate::proofs::Lemmas::KnownForms::other_item))]
 fn update_glyph<F: IndicForms>(
     forms: &F,
     virama: u32,
@@ -77,7 +77,7 @@ fn update_glyph<F: IndicForms>(
 }
 
 /// Gives a consonant the position of its forms, if the font has some.
-#[tactic(auto, using(crate::specs::Lemmas::KnownForms::formed_item, crate::specs::Lemmas::KnownForms::unformed_item))]
+#[tactic(auto, using(crate::proofs::Lemmas::KnownForms::formed_item, crate::proofs::Lemmas::KnownForms::unformed_item))]
 fn update_consonant<F: IndicForms>(
     forms: &F,
     virama: u32,
@@ -97,7 +97,7 @@ fn update_consonant<F: IndicForms>(
 }
 
 /// The position of the forms of a consonant, remembered or asked for.
-#[tactic(auto, using(crate::specs::Lemmas::KnownForms::row_known, crate::specs::Lemmas::KnownForms::row_made))]
+#[tactic(auto, using(crate::proofs::Lemmas::KnownForms::row_known, crate::proofs::Lemmas::KnownForms::row_made))]
 fn known_position<F: IndicForms>(
     forms: &F,
     virama: u32,

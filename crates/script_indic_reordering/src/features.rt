@@ -28,7 +28,7 @@ impl PartRule for Features {
 
     ghost made = { λ f. masks_set f.masks f.pair };
 
-    #[tactic(auto, using(crate::specs::Lemmas::Walks::features_made))]
+    #[tactic(auto, using(crate::proofs::Lemmas::Walks::features_made))]
     fn make(&self, glyphs: &mut [hb_glyph_info_t]) {
         mask_by_position(&self.masks, glyphs);
         mask_pair(self.masks.pref, self.pair, glyphs);
@@ -53,7 +53,7 @@ fn reph_in(glyphs: &[hb_glyph_info_t]) -> usize
 }
 
 /// Sets the features of a reph, of the glyphs before the base and of those after the base.
-#[tactic(auto, using(crate::specs::Lemmas::Walks::by_position_made))]
+#[tactic(auto, using(crate::proofs::Lemmas::Walks::by_position_made))]
 fn mask_by_position(masks: &IndicMasks, glyphs: &mut [hb_glyph_info_t])
     ensures { AreMade (masked_by_position masks.now (strip glyphs.old)) glyphs.old glyphs.new }
 {
@@ -65,7 +65,7 @@ fn mask_by_position(masks: &IndicMasks, glyphs: &mut [hb_glyph_info_t])
 }
 
 /// Sets the features of a mask on the glyphs after an index.
-#[tactic(auto, using(crate::specs::Lemmas::Walks::none_after, crate::specs::Lemmas::Walks::after_made))]
+#[tactic(auto, using(crate::proofs::Lemmas::Walks::none_after, crate::proofs::Lemmas::Walks::after_made))]
 fn mask_after(glyphs: &mut [hb_glyph_info_t], base: usize, mask: hb_mask_t)
     requires { base ≤ length glyphs.old }
     ensures { AreMade (after_masked (base + 1) mask (strip glyphs.old)) glyphs.old glyphs.new }
@@ -78,7 +78,7 @@ fn mask_after(glyphs: &mut [hb_glyph_info_t], base: usize, mask: hb_mask_t)
 }
 
 /// Sets the features of a mask on the glyphs from `start` up to before `end`.
-#[tactic(auto, using(crate::specs::Lemmas::Walks::part_made))]
+#[tactic(auto, using(crate::proofs::Lemmas::Walks::part_made))]
 fn mask_part(glyphs: &mut [hb_glyph_info_t], start: usize, end: usize, mask: hb_mask_t)
     requires ordered { start ≤ end }
     requires within { end ≤ length glyphs.old }
@@ -89,7 +89,7 @@ fn mask_part(glyphs: &mut [hb_glyph_info_t], start: usize, end: usize, mask: hb_
 }
 
 /// The index of the first halant after the base that forms with a consonant after it.
-#[tactic(auto, using(crate::specs::Lemmas::Walks::pairing_begun, crate::specs::Lemmas::Walks::pair_next, crate::specs::Lemmas::Walks::pair_found, crate::specs::Lemmas::Walks::pair_none))]
+#[tactic(auto, using(crate::proofs::Lemmas::Walks::pairing_begun, crate::proofs::Lemmas::Walks::pair_next, crate::proofs::Lemmas::Walks::pair_found, crate::proofs::Lemmas::Walks::pair_none))]
 pub(crate) fn pref_pair<F: IndicForms>(forms: &F, glyphs: &[hb_glyph_info_t]) -> Option<usize>
     ensures value { result ≡ pref_pair (F.forms_of forms.now) (strip glyphs.now) }
     ensures within { IfSome result (λ i. i + 2 ≤ length glyphs.now) }
@@ -104,7 +104,7 @@ pub(crate) fn pref_pair<F: IndicForms>(forms: &F, glyphs: &[hb_glyph_info_t]) ->
 }
 
 /// Whether the glyphs at an index and after it are a halant and a consonant that form together.
-#[tactic(auto, using(crate::specs::Lemmas::Walks::last_forms_none, crate::specs::Lemmas::Walks::two_form))]
+#[tactic(auto, using(crate::proofs::Lemmas::Walks::last_forms_none, crate::proofs::Lemmas::Walks::two_form))]
 fn forms_pref<F: IndicForms>(forms: &F, glyphs: &[hb_glyph_info_t], i: usize) -> bool
     requires { i < length glyphs.now }
     ensures value { result ≡ forms_pref (F.forms_of forms.now) (drop i (strip glyphs.now)) }
@@ -132,7 +132,7 @@ fn mask_pair(mask: hb_mask_t, pair: Option<usize>, glyphs: &mut [hb_glyph_info_t
 }
 
 /// Sets the features of a mask on the glyph at an index and the next one, where both are there.
-#[tactic(auto, using(crate::specs::Lemmas::Walks::no_pair, crate::specs::Lemmas::Walks::pair_made))]
+#[tactic(auto, using(crate::proofs::Lemmas::Walks::no_pair, crate::proofs::Lemmas::Walks::pair_made))]
 fn mask_at(mask: hb_mask_t, i: usize, glyphs: &mut [hb_glyph_info_t])
     ensures { AreMade (pair_masked i mask (strip glyphs.old)) glyphs.old glyphs.new }
 {
@@ -147,7 +147,7 @@ fn mask_at(mask: hb_mask_t, i: usize, glyphs: &mut [hb_glyph_info_t])
 }
 
 /// The bits of a mask that are a feature's own.
-#[tactic(auto, using(crate::specs::Lemmas::Bits::own_no_flags))]
+#[tactic(auto, using(crate::proofs::Lemmas::Bits::own_no_flags))]
 fn own_bits(mask: hb_mask_t) -> hb_mask_t
     ensures value { result ≡ own_bits mask }
     ensures flagless { bit_and result 7 ≡ 0 }
@@ -157,7 +157,7 @@ fn own_bits(mask: hb_mask_t) -> hb_mask_t
 
 /// Clears the bits of a mask on the glyphs before a ZWNJ, back to the nearest consonant. It takes linear time, since it
 /// walks from the end and keeps whether a ZWNJ follows; hardly any syllable has one.
-#[tactic(auto, using(crate::specs::Lemmas::Zwnj::none_cleared, crate::specs::Lemmas::Walks::clearing_begun, crate::specs::Lemmas::Walks::clearing_next, crate::specs::Lemmas::Walks::clearing_done))]
+#[tactic(auto, using(crate::proofs::Lemmas::Zwnj::none_cleared, crate::proofs::Lemmas::Walks::clearing_begun, crate::proofs::Lemmas::Walks::clearing_next, crate::proofs::Lemmas::Walks::clearing_done))]
 fn clear_before_zwnj(bits: hb_mask_t, glyphs: &mut [hb_glyph_info_t])
     requires { bit_and bits 7 ≡ 0 }
     ensures { AreMade (cleared_before_zwnj bits (strip glyphs.old)) glyphs.old glyphs.new }
@@ -200,7 +200,7 @@ fn without_bits_if(is_before: bool, bits: hb_mask_t, glyph: hb_glyph_info_t) -> 
 }
 
 /// A glyph without some bits of its mask, none of which is a glyph flag.
-#[tactic(auto, using(crate::specs::Lemmas::Bits::item_cleared, crate::specs::Lemmas::Bits::origin_cleared))]
+#[tactic(auto, using(crate::proofs::Lemmas::Bits::item_cleared, crate::proofs::Lemmas::Bits::origin_cleared))]
 fn without_bits(bits: hb_mask_t, glyph: hb_glyph_info_t) -> hb_glyph_info_t
     requires { bit_and bits 7 ≡ 0 }
     ensures item { item_of result ≡ without_bits bits (item_of glyph) }

@@ -55,7 +55,7 @@ impl SyllableRule for FinalOrder {
 
     ghost rewritten = { λ o. final_syllable o.reph_pos o.masks };
 
-    #[tactic(auto, using(crate::specs::Lemmas::FinalSteps::lefts_even, crate::specs::Lemmas::FinalSteps::reph_even, crate::specs::Lemmas::FinalSteps::base_within))]
+    #[tactic(auto, using(crate::proofs::Lemmas::FinalSteps::lefts_even, crate::proofs::Lemmas::FinalSteps::reph_even, crate::proofs::Lemmas::FinalSteps::base_within))]
     fn rewrite(
         &self,
         buffer: &mut hb_buffer_t,

@@ -66,7 +66,7 @@ pub(crate) fn last_halant(glyphs: &[hb_glyph_info_t], base: usize) -> Option<usi
 }
 
 /// Whether a syllable of two glyphs or more begins with a reph.
-#[tactic(auto, using(crate::specs::Lemmas::Formed::begins_reph, crate::specs::Lemmas::Formed::too_few))]
+#[tactic(auto, using(crate::proofs::Lemmas::Formed::begins_reph, crate::proofs::Lemmas::Formed::too_few))]
 pub(crate) fn begins_with_reph(glyphs: &[hb_glyph_info_t]) -> bool
     ensures { result ≡ begins_with_reph (strip glyphs.now) }
 {

@@ -85,7 +85,7 @@ impl<F: IndicForms> SyllableRule for InitialOrder<'_, F> {
 }
 
 /// The first glyph of those from `start` up to before `end`.
-#[tactic(auto, using(crate::specs::Lemmas::Steps::first_there))]
+#[tactic(auto, using(crate::proofs::Lemmas::Steps::first_there))]
 pub(crate) fn first_glyph(buffer: &hb_buffer_t, start: usize, end: usize) -> hb_glyph_info_t
     requires ready { IsReady buffer.now }
     requires some { start < end }
@@ -95,7 +95,7 @@ pub(crate) fn first_glyph(buffer: &hb_buffer_t, start: usize, end: usize) -> hb_
     buffer.info_slice()[start]
 }
 
-#[tactic(auto, using(crate::specs::Lemmas::Steps::placed_even, crate::specs::Lemmas::Steps::sorted_even, crate::specs::Lemmas::Steps::matras_even))]
+#[tactic(auto, using(crate::proofs::Lemmas::Steps::placed_even, crate::proofs::Lemmas::Steps::sorted_even, crate::proofs::Lemmas::Steps::matras_even))]
 fn reorder_syllable<F: IndicForms>(
     order: &InitialOrder<'_, F>,
     buffer: &mut hb_buffer_t,
@@ -170,7 +170,7 @@ fn reverse_matras(buffer: &mut hb_buffer_t, start: usize, end: usize)
 }
 
 /// Whether there are two left matras or more.
-#[tactic(auto, using(crate::specs::Lemmas::Sequences::first_left_met, crate::specs::Lemmas::Sequences::second_left_met, crate::specs::Lemmas::Sequences::none_left_met, crate::specs::Lemmas::Sequences::no_second_met))]
+#[tactic(auto, using(crate::proofs::Lemmas::Sequences::first_left_met, crate::proofs::Lemmas::Sequences::second_left_met, crate::proofs::Lemmas::Sequences::none_left_met, crate::proofs::Lemmas::Sequences::no_second_met))]
 fn has_two_matras(glyphs: &[hb_glyph_info_t]) -> bool
     ensures { result ≡ has_two_matras (strip glyphs.now) }
 {

@@ -8,7 +8,7 @@ pub fn law_initial_permutes()
 {}
 
 /// The final reordering permutes each syllable by itself; the feature of words changes no number.
-#[tactic(auto, using(crate::specs::Lemmas::FinalPermuted::final_permutes))]
+#[tactic(auto, using(crate::proofs::Lemmas::FinalPermuted::final_permutes))]
 pub fn law_final_permutes()
     ensures { FinalPermutes }
 {}

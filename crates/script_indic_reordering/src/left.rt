@@ -84,7 +84,7 @@ fn put_within(glyphs: &mut [hb_glyph_info_t], start: usize, end: usize, count: u
 }
 
 /// Moves the left ones of the first `count` glyphs after all others.
-#[tactic(auto, using(crate::specs::Lemmas::LeftPut::few_others, crate::specs::Lemmas::LeftPut::put_is))]
+#[tactic(auto, using(crate::proofs::Lemmas::LeftPut::few_others, crate::proofs::Lemmas::LeftPut::put_is))]
 fn put_last(glyphs: &mut [hb_glyph_info_t], count: usize)
     requires { count ≤ length glyphs.old }
     ensures { glyphs.new ≡ glyphs_put count glyphs.old }

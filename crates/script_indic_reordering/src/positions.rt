@@ -19,7 +19,7 @@ impl PartRule for Base {
 
     ghost made = { λ b. all_placed (record { has_reph = b.has_reph; base = b.index }) };
 
-    #[tactic(auto, using(crate::specs::Lemmas::Walks::positions_made))]
+    #[tactic(auto, using(crate::proofs::Lemmas::Walks::positions_made))]
     fn make(&self, glyphs: &mut [hb_glyph_info_t]) {
         set_base_position(self.index, glyphs);
         set_reph_position(self.has_reph, glyphs);
@@ -29,7 +29,7 @@ impl PartRule for Base {
 }
 
 /// Sets the positions of the glyphs before the base and of the base.
-#[tactic(auto, using(crate::specs::Lemmas::Walks::basing_begun, crate::specs::Lemmas::Walks::basing_next, crate::specs::Lemmas::Walks::basing_here, crate::specs::Lemmas::Walks::basing_past))]
+#[tactic(auto, using(crate::proofs::Lemmas::Walks::basing_begun, crate::proofs::Lemmas::Walks::basing_next, crate::proofs::Lemmas::Walks::basing_here, crate::proofs::Lemmas::Walks::basing_past))]
 fn set_base_position(base: usize, glyphs: &mut [hb_glyph_info_t])
     ensures { AreMade (base_placed base (strip glyphs.old)) glyphs.old glyphs.new }
 {
@@ -59,7 +59,7 @@ fn set_reph_position(has_reph: bool, glyphs: &mut [hb_glyph_info_t])
 }
 
 /// Gives attached glyphs the position of the one before them.
-#[tactic(auto, using(crate::specs::Lemmas::Walks::attaching_begun, crate::specs::Lemmas::Walks::attaching_next, crate::specs::Lemmas::Walks::attaching_done))]
+#[tactic(auto, using(crate::proofs::Lemmas::Walks::attaching_begun, crate::proofs::Lemmas::Walks::attaching_next, crate::proofs::Lemmas::Walks::attaching_done))]
 fn attach(glyphs: &mut [hb_glyph_info_t])
     ensures { AreMade (signs_attached position.POS_START (strip glyphs.old)) glyphs.old glyphs.new }
 {
@@ -82,7 +82,7 @@ fn attached_position(before: Position, glyph: &hb_glyph_info_t) -> Position
 
 /// Gives signs after the base the position of the next consonant, where no matra is between. It takes linear time, since
 /// it walks from the end and keeps the position to give.
-#[tactic(auto, using(crate::specs::Lemmas::Walks::leading_begun, crate::specs::Lemmas::Walks::leading_next, crate::specs::Lemmas::Walks::leading_done))]
+#[tactic(auto, using(crate::proofs::Lemmas::Walks::leading_begun, crate::proofs::Lemmas::Walks::leading_next, crate::proofs::Lemmas::Walks::leading_done))]
 fn lead(base: usize, glyphs: &mut [hb_glyph_info_t])
     ensures { AreMade (all_led_after base (strip glyphs.old)) glyphs.old glyphs.new }
 {

@@ -59,7 +59,7 @@ impl Sought {
     }
 
     /// The index of the first one; that of the end where there is none.
-    #[tactic(auto, using(crate::specs::Lemmas::Positions::position_next, crate::specs::Lemmas::Positions::position_here, crate::specs::Lemmas::Positions::position_past))]
+    #[tactic(auto, using(crate::proofs::Lemmas::Positions::position_next, crate::proofs::Lemmas::Positions::position_here, crate::proofs::Lemmas::Positions::position_past))]
     pub(crate) fn index(self, glyphs: &[hb_glyph_info_t]) -> usize
         ensures index { result ≡ position_or_len (λ x. picks self x) (strip glyphs.now) }
         ensures within { result ≤ length glyphs.now }

@@ -22,7 +22,7 @@ use script_categories::hb_ot_script_shaper_t::INDIC_SHAPER;
 use script_categories::syllable_kinds::SYLLABLE_KIND;
 
 /// Left matras that begin a syllable and a word get the features of a mask, which is 0 where the font lacks them.
-#[tactic(auto, using(crate::specs::Lemmas::Words::no_words, crate::specs::Lemmas::Flagged::happened_count, crate::specs::Lemmas::Flagged::words_masked))]
+#[tactic(auto, using(crate::proofs::Lemmas::Words::no_words, crate::proofs::Lemmas::Flagged::happened_count, crate::proofs::Lemmas::Flagged::words_masked))]
 pub(crate) fn mask_words(mask: hb_mask_t, buffer: &mut hb_buffer_t)
     requires ready { IsReady buffer.old }
     ensures { IsRewritten (record {
@@ -40,7 +40,7 @@ pub(crate) fn mask_words(mask: hb_mask_t, buffer: &mut hb_buffer_t)
 
 /// Flags each left matra that begins a syllable, but no word for the glyph before it alone, as unsafe to break where
 /// PRODUCE_SAFE_BREAKS is set.
-#[tactic(auto, using(crate::specs::Lemmas::Flagged::none_flagged, crate::specs::Lemmas::Flagged::next_flagged, crate::specs::Lemmas::Flagged::all_flagged, crate::specs::Lemmas::Flagged::same_count))]
+#[tactic(auto, using(crate::proofs::Lemmas::Flagged::none_flagged, crate::proofs::Lemmas::Flagged::next_flagged, crate::proofs::Lemmas::Flagged::all_flagged, crate::proofs::Lemmas::Flagged::same_count))]
 fn flag_words(buffer: &mut hb_buffer_t)
     requires ready { IsReady buffer.old }
     ensures { Happens (word_events (is_reordered INDIC_SHAPER) None 0 (items_of buffer.old)) buffer.old buffer.new }

@@ -92,7 +92,7 @@ copied_formed before (x ∷ xs) (f ∷ fs) e =
     ap (λ n. item_formed x n ∷ items_copied (Some n) (items_formed xs fs)) (same_after before x f)
     ∙ ap (λ ys. item_formed x (form_after before x f) ∷ ys) (copied_formed (Some (form_after before x f)) xs fs (omega (arith, e)))
 
-copied_length : (before : Option ℕ) (xs : List Item) (fs : List ℕ) → length fs ≡ length xs → length (forms_copied before xs fs) ≡ length xs
+pub copied_length : (before : Option ℕ) (xs : List Item) (fs : List ℕ) → length fs ≡ length xs → length (forms_copied before xs fs) ≡ length xs
 copied_length before [] fs e = refl
 copied_length before (x ∷ xs) [] e = absurd (omega (arith, e))
 copied_length before (x ∷ xs) (f ∷ fs) e = (let n = copied_length (Some (form_after before x f)) xs fs (omega (arith, e)) in omega (arith, n))
@@ -101,7 +101,7 @@ settled_seen : (mongolian : Bool) (gs : List hb_glyph_info_t) (xs : List Item) (
 settled_seen true gs xs fs e h = copied_seen None gs ∙ ap (items_copied None) h ∙ copied_formed None xs fs e
 settled_seen false gs xs fs e h = h
 
-settled_length : (mongolian : Bool) (xs : List Item) (fs : List ℕ) → length fs ≡ length xs → length (settled_forms mongolian xs fs) ≡ length xs
+pub settled_length : (mongolian : Bool) (xs : List Item) (fs : List ℕ) → length fs ≡ length xs → length (settled_forms mongolian xs fs) ≡ length xs
 settled_length true xs fs e = copied_length None xs fs e
 settled_length false xs fs e = e
 
@@ -141,7 +141,7 @@ typed_settled : (t : Tables) (mongolian : Bool) (xs : List Item) (fs : List ℕ)
 typed_settled t true xs fs = typed_copied t None xs fs
 typed_settled t false xs fs = refl
 
-forms_length : (before ts after : List JoiningType) → length (forms before ts after) ≡ length ts
+pub forms_length : (before ts after : List JoiningType) → length (forms before ts after) ≡ length ts
 forms_length before [] after = refl
 forms_length before (t ∷ ts) after = (let n = forms_length (t ∷ before) ts after in omega (arith, n))
 

@@ -16,7 +16,7 @@ use Rattle.buffer_core.specs.Merging.{index_in_all}
 use Rattle.buffer_core.specs.Marking.{requests_concat, requests_tatweel, concat_marked, end_in_all, flagged_range, range_flagged_apart, start_in_all, strictly_marked, tatweel_marked}
 use Rattle.buffer_stages.specs.Ready.{IsReady}
 use Rattle.buffer_stages.specs.Stages.{Happens}
-use Rattle.buffer_stages.proofs.Lemmas.Happened.{both_happen, call_happens, nothing_happens}
+use Rattle.buffer_stages.proofs.Lemmas.Happened.{both_happen, call_happens, nothing_happens, whole_index}
 use Rattle.script_joining.specs.declared.flags.Letter.{Letter}
 use Rattle.script_joining.specs.Types.{JoiningType}
 use Rattle.script_joining.specs.Forms.{alaph_form, joined_form, joins_before, joins_next, letter_form}
@@ -25,12 +25,6 @@ use Rattle.script_joining.specs.Flagged.{IsEarlier, type_of_typed}
 use Rattle.script_joining.specs.Glyphs.{type_kept}
 
 -- ---- one call
-
--- in a prepared buffer an index of the input is one of all glyphs
-whole_index : (i : ℕ) (s : Sides) → IsReady s → index_in_all i s ≡ i
-whole_index i s ready =
-    let none = ap (λ (ys : List hb_glyph_info_t). length ys) ready.front in
-    omega (arith, none, ready.unread)
 
 same_happens : (es : List Event) (s new : Sides) → new ≡ s → origins_of new ≡ origins_by es s → IsReady s → Happens es s new
 same_happens es s new e from ready =
@@ -135,14 +129,14 @@ same_items a b e = ap (λ (v : View). v.items) e
 pub same_count : (from s : Sides) (start : JoiningType) (at : ℕ) (before : JoiningType) (last : Option Letter) → AreFlagged from start at before last s → length (all_glyphs s) ≡ length (all_glyphs from)
 same_count from s start at before last f = sym (length-map (all_glyphs s) item_of) ∙ ap (λ (xs : List Item). length xs) (same_items from s f.happened.view) ∙ length-map (all_glyphs from) item_of
 
-some_same : {X : Type 0} (a b : X) → Some a ≡ Some b → b ≡ a
+pub some_same : {X : Type 0} (a b : X) → Some a ≡ Some b → b ≡ a
 some_same a b e = cc
 
 still_after : (last : Option Letter) (at : ℕ) → IsEarlier last at → IsEarlier last (at + 1)
 still_after None at b = b
 still_after (Some p) at b = omega (arith, b)
 
-there_suc : {X : Type 0} (xs : List X) (i : ℕ) (x : X) → Some x ≡ slice_get xs i → drop i xs ≡ x ∷ drop (suc i) xs
+pub there_suc : {X : Type 0} (xs : List X) (i : ℕ) (x : X) → Some x ≡ slice_get xs i → drop i xs ≡ x ∷ drop (suc i) xs
 there_suc [] i x e = cc
 there_suc (y ∷ xs) zero x e = ap (λ z. z ∷ xs) (sym (some_same y x (sym e)))
 there_suc (y ∷ xs) (suc i) x e = there_suc xs i x e

@@ -116,7 +116,7 @@ fn is_mongolian_selector(glyph: &hb_glyph_info_t) -> bool
     matches!(glyph.glyph_id, 0x180B..=0x180D | 0x180F)
 }
 
-#[tactic(auto, using(buffer_glyphs::specs::Lists::map_step))]
+#[tactic(auto, using(buffer_glyphs::proofs::Lists::map_step))]
 fn add_masks(masks: &[hb_mask_t], glyphs: &mut [hb_glyph_info_t])
     ensures { glyphs.new ≡ map (glyph_joined masks.now) glyphs.old }
 {

@@ -56,12 +56,6 @@ passed_does start end a le fits ready = rewritten_same start end a le ready
 pub at_none : (m : KhmerMasks) (index count : ℕ) (xs : List Item) → slice_get xs index ≡ None → khmer_at m index count xs ≡ unchanged_step count xs
 at_none m index count xs e = rw e refl
 
-pub at_last : (m : KhmerMasks) (index count : ℕ) (xs : List Item) (x : Item) → slice_get xs index ≡ Some x → slice_get xs (index + 1) ≡ None → khmer_at m index count xs ≡ vowel_step index count xs x
-at_last m index count xs x e f = rw (e, f) refl
-
-pub at_coeng : (m : KhmerMasks) (index count : ℕ) (xs : List Item) (x y : Item) → slice_get xs index ≡ Some x → slice_get xs (index + 1) ≡ Some y → is_coeng count x ≡ true → khmer_at m index count xs ≡ coeng_step m index count xs y
-at_coeng m index count xs x y e f t = rw (e, f) (ap (λ b. if b then coeng_step m index count xs y else vowel_step index count xs x) t)
-
 pub at_other : (m : KhmerMasks) (index count : ℕ) (xs : List Item) (x y : Item) → slice_get xs index ≡ Some x → slice_get xs (index + 1) ≡ Some y → is_coeng count x ≡ false → khmer_at m index count xs ≡ vowel_step index count xs x
 at_other m index count xs x y e f t = rw (e, f) (ap (λ b. if b then coeng_step m index count xs y else vowel_step index count xs x) t)
 
@@ -97,13 +91,6 @@ syllable_none m xs e = rw e refl
 
 syllable_kept : (m : KhmerMasks) (xs : List Item) (x : Item) → slice_get xs 0 ≡ Some x → is_reordered KHMER_SHAPER (bit_and x.syllable 15) ≡ false → khmer_syllable m xs ≡ eventless_arrangement xs
 syllable_kept m xs x e t = rw e (ap (λ b. if b then khmer_reordered m xs else eventless_arrangement xs) t)
-
-pub reordered_all : (m : KhmerMasks) (start end : ℕ) (x : Item) (a b : Sides) → slice_get (slice_range (items_of a) start end) 0 ≡ Some x → is_reordered KHMER_SHAPER (bit_and x.syllable 15) ≡ true
-    → IsRewritten (khmer_reordered m (slice_range (items_of a) start end)) start end a b → IsRewritten (khmer_syllable m (slice_range (items_of a) start end)) start end a b
-reordered_all m start end x a b e t f = subst (λ r. IsRewritten r start end a b) (sym (all (slice_range (items_of a) start end) e)) f
-  where
-    all : (xs : List Item) → slice_get xs 0 ≡ Some x → khmer_syllable m xs ≡ khmer_reordered m xs
-    all xs there = rw there (ap (λ b. if b then khmer_reordered m xs else eventless_arrangement xs) t)
 
 pub none_does : (m : KhmerMasks) (start end : ℕ) (a : Sides) → start ≤ end → end ≤ length (all_glyphs a) → IsReady a → slice_get (slice_range (items_of a) start end) 0 ≡ None → IsRewritten (khmer_syllable m (slice_range (items_of a) start end)) start end a a
 none_does m start end a le fits ready e = subst (λ r. IsRewritten r start end a a) (sym (syllable_none m (slice_range (items_of a) start end) e)) (passed_does start end a le fits ready)

@@ -9,7 +9,7 @@ use Rattle.script_categories.specs.declared.ot_category_t.TheConstants as catego
 use Rattle.buffer_glyphs.specs.declared.info.hb_glyph_info_t.{hb_glyph_info_t}
 use Rattle.buffer_glyphs.specs.Items.{Item, clusters, item_of, strip}
 use Rattle.buffer_glyphs.specs.Origins.{numbers, origin_of, origins}
-use Rattle.buffer_glyphs.specs.Lemmas.Origins.{numbers_origins}
+use Rattle.buffer_glyphs.specs.Lemmas.Origins.{numbers_origins, slice_seen as range_seen}
 use Rattle.buffer_core.specs.Sides.{Sides, all_glyphs, items_of}
 use Rattle.buffer_core.specs.Lending.{with_refilled}
 use Rattle.buffer_stages.specs.Ready.{IsReady}
@@ -18,10 +18,10 @@ use Rattle.buffer_stages.specs.Fronts.{moves_to_front, pair_seen}
 use Rattle.buffer_glyphs.specs.Rewriting.{eventless_arrangement}
 use Rattle.buffer_stages.specs.Parts.{glyph_masked, item_with_features}
 use Rattle.buffer_stages.specs.SyllableBuffers.{IsRewritten}
-use Rattle.buffer_stages.specs.Lemmas.Parts.{item_masked_is, origin_masked_is, part_clusters, part_written, range_seen}
-use Rattle.buffer_stages.specs.Lemmas.Rewritings.{middle}
+use Rattle.buffer_stages.specs.Lemmas.Parts.{item_masked_is, origin_masked_is, part_clusters, part_written}
 use Rattle.script_khmer.specs.Runs.{IsRun, ends_run, forms_masked, is_vowel, run_length, front_count, together}
 use Rattle.script_khmer.specs.Lemmas.Forms.{ra_no_coeng}
+use Rattle.buffer_stages.specs.Lemmas.Fronted.{part_of as middle}
 
 -- ---- lists from an index on
 

@@ -14,7 +14,7 @@ use Rattle.buffer_stages.specs.Lemmas.Rewritings.{rewritten_next, rewritten_same
 use Rattle.buffer_glyphs.specs.Rewriting.{Arrangement, eventless_arrangement, and_arranged}
 use Rattle.buffer_stages.specs.Rewriting.{within}
 use Rattle.buffer_stages.specs.Parts.{fronts_moved, item_with_features, items_with_features}
-use Rattle.buffer_stages.specs.Lemmas.Parts.{masked_size, range_seen, range_size, range_within, rewritten_part, within_size}
+use Rattle.buffer_stages.specs.Lemmas.Parts.{masked_size, range_size, range_within, rewritten_part, within_size}
 use Rattle.script_khmer.specs.declared.khmer.KhmerMasks.{KhmerMasks}
 use Rattle.script_khmer.specs.Khmer.{khmer_at, khmer_walk, khmer_reordered}
 use Rattle.script_khmer.specs.Runs.{IsRun, IsWalked, OpensForms, forms_masked, forms_moved, is_vowel, run_length, together}
@@ -23,6 +23,7 @@ use Rattle.script_khmer.proofs.KhmerMoves.{masked_count}
 use Rattle.script_khmer.proofs.KhmerRuns.{formed_size, forms_walked, vowels_walked}
 use Rattle.script_khmer.proofs.KhmerScan.{run_is}
 use Rattle.buffer_stages.proofs.Lemmas.Counts.{rewritten_even}
+use Rattle.buffer_glyphs.specs.Lemmas.Origins.{slice_seen as range_seen}
 
 -- ---- one part after another
 

@@ -17,7 +17,7 @@ use Rattle.buffer_glyphs.specs.Rewriting.{Arrangement, eventless_arrangement, an
 use Rattle.buffer_stages.specs.Rewriting.{within}
 use Rattle.buffer_stages.specs.SyllableBuffers.{IsRewritten}
 use Rattle.buffer_stages.specs.Lemmas.Rewritings.{counted, rewritten_count, rewritten_next, rewritten_same}
-use Rattle.buffer_stages.specs.Lemmas.Parts.{part_clusters, part_written, range_size, rewritten_part, range_seen}
+use Rattle.buffer_stages.specs.Lemmas.Parts.{part_clusters, part_written, range_size, rewritten_part}
 use Rattle.script_myanmar.specs.Myanmar.{items_with_positions, has_two_matras, is_pre_base_vowel, matras_of, matras_reversed, myanmar_positions, myanmar_reordered, myanmar_syllable, with_position, with_positions}
 use Rattle.script_myanmar.specs.Turned.{glyphs_at}
 use Rattle.buffer_stages.specs.Ordering.{groups_reversed, auxiliary_order}
@@ -25,6 +25,8 @@ use Rattle.script_myanmar.specs.Lemmas.MyanmarSize.{all_placed_size}
 use Rattle.buffer_stages.specs.Lemmas.Sorted.{sorted_size}
 use Rattle.script_myanmar.specs.Lemmas.Sizes.{positions_size}
 use Rattle.buffer_stages.proofs.Lemmas.Elements.{split_at}
+use Rattle.script_syllabic.proofs.Marking.{categories_seen as kinds_seen}
+use Rattle.buffer_glyphs.specs.Lemmas.Origins.{slice_seen as range_seen}
 
 -- ---- what is seen of glyphs
 
@@ -80,10 +82,6 @@ no_second gs i b met le f = by_met met ∙ ap (are_two met) (sym (drop_all i gs 
     by_met : (m : Bool) → false ≡ are_two m []
     by_met true = refl
     by_met false = refl
-
-kinds_seen : (gs : List hb_glyph_info_t) → map (λ (g : hb_glyph_info_t). g.category) gs ≡ map (λ (x : Item). x.category) (strip gs)
-kinds_seen [] = refl
-kinds_seen (g ∷ gs) = ap (λ cs. g.category ∷ cs) (kinds_seen gs)
 
 items_at : (ps : List ℕ) (gs : List hb_glyph_info_t) → strip (glyphs_at ps gs) ≡ with_positions ps (strip gs)
 items_at [] gs = refl

@@ -17,18 +17,6 @@ use Rattle.script_syllabic.specs.Spans.{categories_counted, if_counted, is_count
 
 -- ---- counting
 
-categories_next : (i : ℕ) (gs : List hb_glyph_info_t) (d : hb_glyph_info_t) → i < length gs
-    → categories_counted (strip (drop i gs)) ≡ if_counted (item_of (get_or gs i d)) (strip (drop (suc i) gs)) (get_or gs i d).category ++ categories_counted (strip (drop (suc i) gs))
-categories_next i [] d lt = absurd (omega arith)
-categories_next zero (g ∷ gs) d lt = refl
-categories_next (suc i) (g ∷ gs) d lt = categories_next i gs d (omega arith)
-
-indices_next : (at i : ℕ) (gs : List hb_glyph_info_t) (d : hb_glyph_info_t) → i < length gs
-    → counted_indices_from at (strip (drop i gs)) ≡ if_counted (item_of (get_or gs i d)) (strip (drop (suc i) gs)) at ++ counted_indices_from (at + 1) (strip (drop (suc i) gs))
-indices_next at i [] d lt = absurd (omega arith)
-indices_next at zero (g ∷ gs) d lt = refl
-indices_next at (suc i) (g ∷ gs) d lt = indices_next at i gs d (omega arith)
-
 -- what was counted before an index, and what is left
 pub record AreCounted (i : ℕ) (gs : List hb_glyph_info_t) (cs ps : List ℕ) : Type 0 where
   pub categories : cs ++ categories_counted (strip (drop i gs)) ≡ categories_counted (strip gs)
@@ -36,19 +24,6 @@ pub record AreCounted (i : ℕ) (gs : List hb_glyph_info_t) (cs ps : List ℕ) :
 
 pub none_counted : (gs : List hb_glyph_info_t) → AreCounted 0 gs [] []
 none_counted gs = record { categories = refl; indices = refl }
-
-pub one_counted : (i : ℕ) (gs : List hb_glyph_info_t) (cs ps : List ℕ) (d : hb_glyph_info_t) → i < length gs → AreCounted i gs cs ps
-    → AreCounted (i + 1) gs (cs ++ if_counted (item_of (get_or gs i d)) (strip (drop (i + 1) gs)) (get_or gs i d).category) (ps ++ if_counted (item_of (get_or gs i d)) (strip (drop (i + 1) gs)) i)
-one_counted i gs cs ps d lt c =
-    let n : i + 1 ≡ suc i = omega arith in
-    record {
-      categories = append_assoc cs (if_counted (item_of (get_or gs i d)) (strip (drop (i + 1) gs)) (get_or gs i d).category) (categories_counted (strip (drop (i + 1) gs)))
-          ∙ ap (λ m. cs ++ (if_counted (item_of (get_or gs i d)) (strip (drop m gs)) (get_or gs i d).category ++ categories_counted (strip (drop m gs)))) n
-          ∙ ap (λ ys. cs ++ ys) (sym (categories_next i gs d lt)) ∙ c.categories;
-      indices = append_assoc ps (if_counted (item_of (get_or gs i d)) (strip (drop (i + 1) gs)) i) (counted_indices_from (i + 1) (strip (drop (i + 1) gs)))
-          ∙ ap (λ m. ps ++ (if_counted (item_of (get_or gs i d)) (strip (drop m gs)) i ++ counted_indices_from (i + 1) (strip (drop m gs)))) n
-          ∙ ap (λ ys. ps ++ ys) (sym (indices_next i i gs d lt)) ∙ c.indices;
-    }
 
 pub all_counted : (i : ℕ) (gs : List hb_glyph_info_t) (cs ps : List ℕ) → length gs ≤ i → AreCounted i gs cs ps → (cs ≡ categories_counted (strip gs)) × (ps ≡ counted_indices_from 0 (strip gs))
 all_counted i gs cs ps le c =

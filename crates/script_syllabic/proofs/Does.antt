@@ -12,10 +12,6 @@ pub does_stage : {X : Type 0} (stage : Stage) (r : Result X ShapeCause) (old new
 does_stage stage (Ok x) old new ok err = ok
 does_stage stage (Err e) old new ok err = err
 
-pub does_glyph_stage : {X : Type 0} (stage : Stage) (r : Result X ShapeCause) (old new : Sides) → OnOk r (IsDone stage old new) → IfErr r (λ (e : ShapeCause). e ≢ OutOfMemory → reading_of stage (state_of old) ≡ Err e) → DoesGlyphStage stage r old new
-does_glyph_stage stage (Ok x) old new ok err = ok
-does_glyph_stage stage (Err e) old new ok err = err
-
 -- an error that `?` hands on
 pub passed_stage : {X : Type 0} (stage : Stage) (r : Result X ShapeCause) (e : ShapeCause) (old new : Sides) → IsErrAnd r (λ (f : ShapeCause). f ≡ e) → (e ≢ OutOfMemory → reading_of stage (state_of old) ≡ Err e) → DoesStage stage r old new
 passed_stage stage (Ok x) e old new h refused = absurd h

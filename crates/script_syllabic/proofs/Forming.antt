@@ -18,13 +18,15 @@ use Rattle.buffer_stages.specs.Lemmas.Written.{happened_followed}
 use Rattle.buffer_glyphs.specs.Rewriting.{eventless_arrangement}
 use Rattle.buffer_stages.specs.Rewriting.{in_syllables, runs_with_first, runs_of}
 use Rattle.buffer_stages.specs.SyllableBuffers.{IsRewritten, with_rule}
-use Rattle.buffer_stages.specs.Lemmas.Parts.{part_written, range_seen, range_size, without_again, flags_again}
-use Rattle.buffer_stages.specs.Lemmas.Rewritings.{middle, items_after, rewritten_beside, rewritten_count, rewritten_nothing, rewritten_same, counted}
+use Rattle.buffer_stages.specs.Lemmas.Parts.{part_written, range_size, without_again, flags_again}
+use Rattle.buffer_stages.specs.Lemmas.Rewritings.{items_after, rewritten_beside, rewritten_count, rewritten_nothing, rewritten_same, counted}
 use Rattle.buffer_stages.proofs.Lemmas.Syllables.{syllable_end, syllables_cut}
 use Rattle.script_syllabic.specs.declared.forms.FormMasks.{FormMasks}
 use Rattle.script_syllabic.specs.Features.{all_forms, each_formed, first_connects, form_bits, form_of, syllable_with_form, connects, topography, topography_events, with_form}
 use Rattle.script_syllabic.specs.Formed.{glyph_with_form}
-use Rattle.buffer_stages.proofs.Lemmas.Masks.{high_cleared, without_flags_is}
+use Rattle.buffer_glyphs.specs.Lemmas.Origins.{slice_seen as range_seen}
+use Rattle.buffer_stages.specs.Lemmas.Fronted.{part_of as middle}
+use Rattle.buffer_core.proofs.Masked.{high_cleared, without_flags_is}
 
 -- ---- one mask
 
@@ -143,9 +145,6 @@ pub record IsForming (masks : FormMasks) (start : ℕ) (before : Bool) (old now 
   pub count : length (all_glyphs now) ≡ length (all_glyphs old)
   pub does : (new : Sides) → IsRewritten (eventless_arrangement (each_formed masks before (in_syllables (drop start (items_of now))))) start (length (all_glyphs old)) now new
       → IsRewritten (eventless_arrangement (each_formed masks false (in_syllables (items_of old)))) 0 (length (all_glyphs old)) old new
-
-pub forming_begun : (masks : FormMasks) (s : Sides) → IsReady s → IsForming masks 0 false s s
-forming_begun masks s ready = record { ready = ready; count = refl; does = λ new f. f }
 
 next_formed : (masks : FormMasks) (before : Bool) (start end : ℕ) (s : Sides) → start < length (all_glyphs s) → end ≡ start + run_length (λ (g : hb_glyph_info_t). g.syllable) (drop start (all_glyphs s))
     → each_formed masks before (in_syllables (drop start (items_of s)))

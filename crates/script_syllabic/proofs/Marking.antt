@@ -29,6 +29,7 @@ use Rattle.buffer_stages.specs.Lemmas.Rewritings.{counted, origins_then, rewritt
 use Rattle.buffer_stages.specs.Lemmas.Parts.{part_written, range_size, rewritten_part, within_size}
 use Rattle.script_syllabic.specs.Bytes.{bytes_of, bytes_set, is_known, itself, one_syllable, syllables_set, text_syllables, with_byte}
 use Rattle.script_syllabic.specs.Rules.{glyph_with_byte}
+use Rattle.buffer_lists.proofs.Lemmas.SortedItems.{strip_range as range_stripped}
 
 -- ---- one syllable
 
@@ -39,9 +40,6 @@ items_with byte (g ∷ gs) = ap (λ xs. with_byte byte (item_of g) ∷ xs) (item
 origins_with : (byte : ℕ) (gs : List hb_glyph_info_t) → origins (map (glyph_with_byte byte) gs) ≡ origins gs
 origins_with byte [] = refl
 origins_with byte (g ∷ gs) = ap (λ os. origin_of g ∷ os) (origins_with byte gs)
-
-range_stripped : (from to : ℕ) (gs : List hb_glyph_info_t) → strip (slice_range gs from to) ≡ slice_range (strip gs) from to
-range_stripped from to gs = sym (take-map item_of (to - from) (drop from gs)) ∙ ap (take (to - from)) (sym (drop-map item_of from gs))
 
 -- a range got a byte, and then was flagged as unsafe to break
 pub syllable_marked : (from to byte : ℕ) (gs : List hb_glyph_info_t) (a b : Sides) → IsReady a → from ≤ to → to ≤ length (all_glyphs a)
@@ -195,7 +193,7 @@ unknown_by next at shaper count index start old now p u lt e f =
 
 -- ---- the categories of a text
 
-categories_seen : (gs : List hb_glyph_info_t) → map (λ (g : hb_glyph_info_t). g.category) gs ≡ map (λ (x : Item). x.category) (strip gs)
+pub categories_seen : (gs : List hb_glyph_info_t) → map (λ (g : hb_glyph_info_t). g.category) gs ≡ map (λ (x : Item). x.category) (strip gs)
 categories_seen [] = refl
 categories_seen (g ∷ gs) = ap (λ cs. g.category ∷ cs) (categories_seen gs)
 

@@ -7,10 +7,11 @@ use Rattle.buffer_core.specs.Sides.{Sides, all_glyphs, items_of}
 use Rattle.buffer_stages.specs.Rewriting.{within}
 use Rattle.buffer_stages.specs.Parts.{items_with_features}
 use Rattle.buffer_stages.specs.SyllableBuffers.{IsRewritten}
-use Rattle.buffer_stages.specs.Lemmas.Parts.{range_seen, range_size, rewritten_part}
+use Rattle.buffer_stages.specs.Lemmas.Parts.{range_size, rewritten_part}
 use Rattle.buffer_stages.specs.Lemmas.Rewritings.{counted}
 use Rattle.script_syllabic.specs.Features.{reph_size, rphf_masked}
 use Rattle.script_syllabic.specs.Lemmas.Sizes.{reph_within}
+use Rattle.buffer_glyphs.specs.Lemmas.Origins.{slice_seen as range_seen}
 
 size_seen : (start end n : ℕ) (gs : List hb_glyph_info_t) (a : Sides) → gs ≡ all_glyphs a → n ≡ reph_size (strip (slice_range gs start end)) → n ≡ reph_size (slice_range (items_of a) start end)
 size_seen start end n gs a same e = e ∙ ap (λ hs. reph_size (strip (slice_range hs start end))) same ∙ ap reph_size (range_seen item_of start end (all_glyphs a))

@@ -11,9 +11,10 @@ use Rattle.buffer_stages.specs.Ready.{IsReady}
 use Rattle.buffer_glyphs.specs.LigatureWords.{is_substituted}
 use Rattle.buffer_glyphs.specs.Rewriting.{eventless_arrangement}
 use Rattle.buffer_stages.specs.SyllableBuffers.{IsRewritten}
-use Rattle.buffer_stages.specs.Lemmas.Parts.{part_written, range_seen}
+use Rattle.buffer_stages.specs.Lemmas.Parts.{part_written}
 use Rattle.script_syllabic.specs.Features.{with_first_recorded, with_category}
 use Rattle.script_syllabic.specs.Recorded.{glyph_with_category, glyphs_recorded}
+use Rattle.buffer_glyphs.specs.Lemmas.Origins.{slice_seen as range_seen}
 
 abbrev by_tests : (Item → Bool) → ℕ → hb_glyph_info_t → List hb_glyph_info_t → Bool → Bool → List hb_glyph_info_t
 by_tests test c g gs s t = if not s then g ∷ gs else if t then glyph_with_category c g ∷ gs else g ∷ glyphs_recorded test c gs

@@ -51,9 +51,6 @@ pub record AreSeamsFlagged (from : Sides) (start : ℕ) (before : Bool) (s : Sid
   pub begun : before ≡ true → 0 < start
   pub rest : events ++ seam_events before start (in_syllables (drop start (items_of from))) ≡ seam_events false 0 (in_syllables (items_of from))
 
-pub no_seam_flagged : (s : Sides) → IsReady s → AreSeamsFlagged s 0 false s
-no_seam_flagged s ready = record { events = []; happened = nothing_happens s ready; begun = λ e. absurd cc; rest = refl }
-
 same_items : (from s : Sides) (start : ℕ) (before : Bool) → AreSeamsFlagged from start before s → items_of s ≡ items_of from
 same_items from s start before f = ap (λ (v : View). v.items) f.happened.view
 

@@ -11,13 +11,7 @@ use Rattle.buffer_core.specs.Marking.{end_in_all, range_flagged_apart, start_in_
 use Rattle.buffer_core.specs.Marking as marking
 use Rattle.buffer_stages.specs.Ready.{IsReady}
 use Rattle.buffer_stages.specs.Stages.{Happens}
-use Rattle.buffer_stages.proofs.Lemmas.Happened.{call_happens}
-
--- in a prepared buffer an index of the input is one of all glyphs
-whole_index : (i : ℕ) (s : Sides) → IsReady s → index_in_all i s ≡ i
-whole_index i s ready =
-    let none = ap (λ (ys : List hb_glyph_info_t). length ys) ready.front in
-    omega (arith, none, ready.unread)
+use Rattle.buffer_stages.proofs.Lemmas.Happened.{call_happens, whole_index}
 
 same_happens : (es : List Event) (s new : Sides) → new ≡ s → origins_of new ≡ origins_by es s → IsReady s → Happens es s new
 same_happens es s new e from ready =

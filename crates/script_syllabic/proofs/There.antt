@@ -3,13 +3,11 @@ use Rattle.std.proofs.Common.{ℕ, ◌≡◌, ◌≤◌, ◌<◌, ◌+◌, ◌-�
 use Rattle.std.specs.Prelude.{slice_range}
 use Rattle.std.proofs.lemmas.Option.{slice_get-get_or, slice_get_past}
 use Rattle.std.proofs.lemmas.List.{length-map, get_or-take, get_or-drop}
-use Rattle.buffer_glyphs.specs.Lists.{get_or_mapped}
+use Rattle.buffer_glyphs.proofs.Lists.{get_or_mapped}
 use Rattle.buffer_glyphs.specs.declared.info.hb_glyph_info_t.{hb_glyph_info_t}
 use Rattle.buffer_glyphs.specs.Items.{item_of, strip}
 use Rattle.buffer_stages.specs.Lemmas.Parts.{range_size}
-
-ranged : {X : Type 0} (start end index : ℕ) (d : X) (xs : List X) → index < end - start → get_or (slice_range xs start end) index d ≡ get_or xs (start + index) d
-ranged start end index d xs lt = get_or-take (end - start) (drop start xs) index d lt ∙ get_or-drop start xs index d
+use Rattle.buffer_stages.proofs.Halves.{ranged}
 
 pub there : (gs : List hb_glyph_info_t) (start end index : ℕ) (d : hb_glyph_info_t) → start ≤ end → end ≤ length gs → index < end - start → slice_get (slice_range (strip gs) start end) index ≡ Some (item_of (get_or gs (start + index) d))
 there gs start end index d le fits lt =

@@ -295,11 +295,6 @@ fewer r last next (x ∷ xs) ys lt = let m = at_most r next ys in by_test (begin
     by_test true m = omega (arith, m, lt)
     by_test false m = omega (arith, m, lt)
 
-pub less_passed : (r : CircleRule) (last : ℕ) (now next : Sides) → 0 < length now.ahead → next ≡ after_next_glyphs 1 now → left_to_do r last (strip next.ahead) < left_to_do r last (strip now.ahead)
-less_passed r last now next some e =
-    let few : length (strip next.ahead) ≡ length now.ahead - 1 = length-map next.ahead item_of ∙ ap (λ (s : Sides). length s.ahead) e ∙ length-drop 1 now.ahead in
-    fewer r last last (strip now.ahead) (strip next.ahead) (omega (arith, few, some, length-map now.ahead item_of))
-
 same_byte : (r : CircleRule) (x : Item) → begins r x.syllable x ≡ false
 same_byte r x = let e : (x.syllable == x.syllable) ≡ true = grind (arith, nat_tests, common_steps) in rw e refl
 
@@ -374,13 +369,6 @@ all_passed r byte n old now p none =
     let e : n ≡ prefix_len (is_repha r byte) (strip old.ahead) = omega (arith, more, none) in
     (e, p.moved ∙ ap (λ m. after_next_glyphs m old) e)
 
-pub none_ahead : (r : CircleRule) (byte : ℕ) (s : Sides) → length s.ahead ≡ 0 → prefix_len (is_repha r byte) (strip s.ahead) ≡ 0
-none_ahead r byte s e = by_ahead s.ahead e
-  where
-    by_ahead : (gs : List hb_glyph_info_t) → length gs ≡ 0 → prefix_len (is_repha r byte) (strip gs) ≡ 0
-    by_ahead [] n = refl
-    by_ahead (h ∷ hs) n = absurd (omega (arith, n))
-
 pub other_ahead : (r : CircleRule) (byte : ℕ) (g : hb_glyph_info_t) (s : Sides) → slice_get s.ahead 0 ≡ Some g → is_repha r byte (item_of g) ≡ false → prefix_len (is_repha r byte) (strip s.ahead) ≡ 0
 other_ahead r byte g s at is_none = by_ahead s.ahead at
   where
@@ -390,15 +378,6 @@ other_ahead r byte g s at is_none = by_ahead s.ahead at
         let first : h ≡ g = cc in
         let no_h : is_repha r byte (item_of h) ≡ false = ap (λ k. is_repha r byte (item_of k)) first ∙ is_none in
         ap (λ (t : Bool). if t then 1 + prefix_len (is_repha r byte) (strip hs) else 0) no_h
-
--- a repha that is refused: the list is too long
-pub refused_passed : (r : CircleRule) (byte n : ℕ) (old now : Sides) (e : ShapeCause) → ArePassed r byte n old now → 0 < length now.ahead → IsTooLong (length now.behind + 1) now e → IsTooLong (length (all_glyphs old)) old e
-refused_passed r byte n old now e p some h = λ other.
-    let why = h other in
-    let more = why.1 in
-    let limit = p.limit in
-    let all = ap (λ (ks : List hb_glyph_info_t). length ks) p.all in
-    (why.0, omega (arith, more, limit, all, length-append now.behind now.ahead, some))
 
 -- ---- refusals of the walk
 

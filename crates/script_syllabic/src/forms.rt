@@ -196,7 +196,7 @@ fn form_within(
     form_each(&mut glyphs[start..end], bits, form);
 }
 
-#[tactic(auto, using(buffer_glyphs::specs::Lists::map_step))]
+#[tactic(auto, using(buffer_glyphs::proofs::Lists::map_step))]
 fn form_each(glyphs: &mut [hb_glyph_info_t], bits: hb_mask_t, form: hb_mask_t)
     ensures { glyphs.new ≡ map (glyph_with_form bits form) glyphs.old }
 {

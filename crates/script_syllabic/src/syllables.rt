@@ -139,7 +139,7 @@ fn byte_within(glyphs: &mut [hb_glyph_info_t], start: usize, end: usize, byte: u
     byte_each(&mut glyphs[start..end], byte);
 }
 
-#[tactic(auto, using(buffer_glyphs::specs::Lists::map_step))]
+#[tactic(auto, using(buffer_glyphs::proofs::Lists::map_step))]
 fn byte_each(glyphs: &mut [hb_glyph_info_t], byte: u8)
     ensures { glyphs.new ≡ map (glyph_with_byte byte) glyphs.old }
 {

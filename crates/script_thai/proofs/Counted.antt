@@ -15,7 +15,7 @@ IsCounted i gs = count_above (strip gs) ≡ i + count_above (strip (take (length
 pub none_counted : (gs : List hb_glyph_info_t) → IsCounted 0 gs
 none_counted gs = let same : length gs - 0 ≡ length gs = omega arith in ap (λ hs. count_above (strip hs)) (sym (take-length gs) ∙ ap (λ k. take k gs) (sym same)) ∙ sym (let z : 0 + count_above (strip (take (length gs - 0) gs)) ≡ count_above (strip (take (length gs - 0) gs)) = omega arith in z)
 
-last_counted : (xs : List Item) (x : Item) → count_above (xs ++ x ∷ []) ≡ (if is_mark_above x then 1 + count_above xs else 0)
+pub last_counted : (xs : List Item) (x : Item) → count_above (xs ++ x ∷ []) ≡ (if is_mark_above x then 1 + count_above xs else 0)
 last_counted xs x = ap (prefix_len is_mark_above) (reverse-append xs (x ∷ []))
 
 cut : (i : ℕ) (gs : List hb_glyph_info_t) (d : hb_glyph_info_t) → i < length gs → strip (take (length gs - i) gs) ≡ strip (take (length gs - (i + 1)) gs) ++ item_of (get_or gs (length gs - 1 - i) d) ∷ []

@@ -32,11 +32,11 @@ pub begun : (n : ℕ) (s : Sides) → length (all_glyphs s) ≡ n → IsUnderway
 begun n s e = record { events = []; walked = nothing_walked (with_output s) refl; items = refl; whole = refl; count = e }
 
 -- characters, and then others
-splits_both : (out xs ys : List Item) → text_with_splits out (xs ++ ys) ≡ text_with_splits (text_with_splits out xs) ys
+pub splits_both : (out xs ys : List Item) → text_with_splits out (xs ++ ys) ≡ text_with_splits (text_with_splits out xs) ys
 splits_both out [] ys = refl
 splits_both out (x ∷ xs) ys = splits_both (with_character out x) xs ys
 
-events_both : (out xs ys : List Item) → split_events out (xs ++ ys) ≡ split_events out xs ++ split_events (text_with_splits out xs) ys
+pub events_both : (out xs ys : List Item) → split_events out (xs ++ ys) ≡ split_events out xs ++ split_events (text_with_splits out xs) ys
 events_both out [] ys = refl
 events_both out (x ∷ xs) ys =
     ap (λ es. events_of_character out x ++ es) (events_both (with_character out x) xs ys)
@@ -104,7 +104,7 @@ character_grows : (out : List Item) (x : Item) (t : Bool) → length out ≤ len
 character_grows out x true = vowel_grows out x
 character_grows out x false = let a = length-append out (x ∷ []) in omega (arith, a)
 
-grows : (out xs : List Item) → length out ≤ length (text_with_splits out xs)
+pub grows : (out xs : List Item) → length out ≤ length (text_with_splits out xs)
 grows out [] = omega arith
 grows out (x ∷ xs) = let a = character_grows out x (is_sara_am x) in let b = grows (with_character out x) xs in omega (arith, a, b)
 

@@ -14,7 +14,7 @@ use Rattle.buffer_core.specs.Sides.{Sides, all_glyphs, items_of}
 use Rattle.buffer_stages.specs.Ready.{IsReady}
 use Rattle.buffer_stages.specs.Moves.{MoveToFront, all_moved, move_events, with_range_moved, order_of_move, reach}
 use Rattle.buffer_stages.specs.Fronts.{moves_to_front, with_fronts_moved_after}
-use Rattle.buffer_stages.specs.Lemmas.Fronted.{gathered_after_length, moved_one, moves_alone, moves_grow, reach_fits}
+use Rattle.buffer_stages.specs.Lemmas.Fronted.{gathered_after_length, moved_one, moves_alone, moves_grow, reach_fits, part_of as middle}
 use Rattle.buffer_stages.specs.Lemmas.Nested.{reach_grows}
 use Rattle.buffer_glyphs.specs.Rewriting.{Arrangement, eventless_arrangement, shifted_event, and_arranged}
 use Rattle.buffer_stages.specs.Rewriting.{within}
@@ -23,11 +23,13 @@ use Rattle.buffer_stages.specs.Moves.{IsGrowing}
 use Rattle.buffer_stages.specs.SyllableBuffers.{IsRewritten}
 use Rattle.buffer_stages.specs.Parts.{first_to_back, fronts_moved}
 use Rattle.buffer_stages.proofs.Lemmas.Fronts.{part_moves, shift_moves}
-use Rattle.buffer_stages.specs.Lemmas.Parts.{moved_range, range_size, rewritten_part, within_size, range_seen}
-use Rattle.buffer_stages.specs.Lemmas.Rewritings.{counted, middle, rewritten_count, rewritten_next, rewritten_same, rewritten_slice, whole_cut}
+use Rattle.buffer_stages.specs.Lemmas.Parts.{moved_range, range_size, rewritten_part, within_size}
+use Rattle.buffer_stages.specs.Lemmas.Rewritings.{counted, rewritten_count, rewritten_next, rewritten_same, rewritten_slice}
 use Rattle.script_universal.specs.Reordering.{Step, is_halant, is_left, left_vowel_step_at, left_walk}
 use Rattle.script_universal.specs.Walked.{IsWalked, together}
 use Rattle.buffer_stages.proofs.Lemmas.Elements.{split_at}
+use Rattle.buffer_glyphs.specs.Lemmas.Origins.{slice_seen as range_seen}
+use Rattle.buffer_glyphs.specs.Lemmas.Glyphs.{cut_out as whole_cut}
 
 -- none of some items is a halant
 abbrev pub NoHalants : List Item → Type 0

@@ -8,7 +8,7 @@ use Rattle.buffer_glyphs.specs.declared.info.hb_glyph_info_t.{hb_glyph_info_t}
 use Rattle.script_categories.specs.declared.shaper.hb_ot_script_shaper_t.TheVariants.{UNIVERSAL_SHAPER}
 use Rattle.script_categories.specs.Shapers.{is_reordered}
 use Rattle.buffer_glyphs.specs.Items.{Item, item_of, strip}
-use Rattle.buffer_glyphs.specs.Lists.{get_or_mapped}
+use Rattle.buffer_glyphs.proofs.Lists.{get_or_mapped}
 use Rattle.buffer_core.specs.Sides.{Sides, all_glyphs, items_of}
 use Rattle.buffer_stages.specs.Ready.{IsReady}
 use Rattle.buffer_glyphs.specs.Rewriting.{Arrangement, eventless_arrangement}
@@ -16,11 +16,12 @@ use Rattle.buffer_stages.specs.Rewriting.{within}
 use Rattle.buffer_stages.specs.Parts.{first_to_back}
 use Rattle.buffer_stages.specs.SyllableBuffers.{IsRewritten}
 use Rattle.buffer_stages.specs.Lemmas.Rewritings.{counted, rewritten_next, rewritten_same}
-use Rattle.buffer_stages.specs.Lemmas.Parts.{range_size, rewritten_part, range_seen}
+use Rattle.buffer_stages.specs.Lemmas.Parts.{range_size, rewritten_part}
 use Rattle.script_universal.specs.Reordering.{begins_with_reph, is_halant, left_walk, reph_end, reph_moved, stops_reph, universal_reordered, universal_syllable}
 use Rattle.script_universal.specs.Lemmas.Sizes.{reph_size}
 use Rattle.buffer_stages.proofs.Lemmas.Elements.{split_at}
 use Rattle.buffer_stages.proofs.Lemmas.Counts.{rewritten_even}
+use Rattle.buffer_glyphs.specs.Lemmas.Origins.{slice_seen as range_seen}
 
 -- ---- items of a part
 

@@ -1,2 +1,3 @@
 -- Lemmas.
 pub mod Unmarked
+pub mod MarkPositions

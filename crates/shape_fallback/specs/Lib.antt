@@ -1,4 +1,3 @@
-pub mod Lemmas
 pub mod Classes
 pub mod Spaces
 pub mod Zeroing

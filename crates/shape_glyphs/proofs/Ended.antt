@@ -32,7 +32,7 @@ use Rattle.buffer_properties.specs.Characters.{with_category}
 
 -- ---- numbers
 
-glyph_if : (n : ℕ) (b : Bool) → nat_le n 65535 ≡ b → nat_le (if b then n else 0) 65535 ≡ true
+pub glyph_if : (n : ℕ) (b : Bool) → nat_le n 65535 ≡ b → nat_le (if b then n else 0) 65535 ≡ true
 glyph_if n true h = h
 glyph_if n false h = refl
 
@@ -118,7 +118,7 @@ spread_done s new e items from ready =
 
 -- ---- deletion
 
-same_length : (q : Item → Bool) (xs : List Item) (ps : List Position) → length ps ≡ length xs → length (positions_kept q xs ps) ≡ length (items_kept q xs)
+pub same_length : (q : Item → Bool) (xs : List Item) (ps : List Position) → length ps ≡ length xs → length (positions_kept q xs ps) ≡ length (items_kept q xs)
 same_length q [] [] e = refl
 same_length q [] (p ∷ ps) e = absurd (omega (arith, e))
 same_length q (x ∷ xs) [] e = absurd (omega (arith, e))

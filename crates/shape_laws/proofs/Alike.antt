@@ -20,7 +20,7 @@ use Rattle.buffer_core.specs.Sides.{Sides, all_glyphs, state_of, view_of}
 use Rattle.buffer_stages.specs.Settings.{TextSettings, text_settings}
 use Rattle.buffer_parts.specs.Alike.{attachment_bit}
 use Rattle.buffer_parts.specs.Counting.{SeenAlikeInAll, Uses, at_budget}
-use Rattle.buffer_parts.specs.Lemmas.Both.{used_alike_are_read}
+use Rattle.buffer_parts.proofs.Lemmas.Both.{used_alike_are_read}
 use Rattle.buffer_parts.specs.Lemmas.Counting.{counting_has_uses, counting_spares_budget, sparing_reads_the_same}
 use Rattle.buffer_unicode_tables.specs.Tables.{Tables}
 use Rattle.buffer_properties.specs.Properties.{is_mark_character}
@@ -54,6 +54,7 @@ use Rattle.shape_laws.proofs.Begun.{IsBegun}
 use Rattle.shape_laws.proofs.Chosen.{chosen_is, normalized_view, views_alike}
 use Rattle.shape_laws.proofs.Limits.{glyphs_depend_on_no_limit}
 use Rattle.shape_laws.proofs.Shapers.{shapers_normalize_as_unicode}
+use Rattle.shape_pipeline.proofs.Alike.{range_none, no_ranges}
 
 -- ---- nested lookups
 
@@ -69,21 +70,6 @@ greater_budgets_read_the_same p v m k d r rules e left =
     sparing_reads_the_same (glyphs_stage p) v m k d r (counting_spares_budget (glyphs_stage p) (glyphs_depend_on_no_limit p rules).budget) e left
 
 -- ---- no masks of ranges
-
-both_hold : (a b : Bool) → (a && b) ≡ true → (a ≡ true) × (b ≡ true)
-both_hold true b h = (refl, h)
-both_hold false b h = cc
-
-range_none : (b : Bool) (xs ys : List Item) → b ≡ true → (if b then xs else ys) ≡ xs
-range_none true xs ys h = refl
-range_none false xs ys h = cc
-
-no_ranges : (map : OtMapValue) (fs : List Feature) (ns : List ℕ) (xs : List Item) → have_no_ranges fs ≡ true → with_all_ranges map fs ns xs ≡ xs
-no_ranges map [] ns xs h = refl
-no_ranges map (f ∷ fs) ns xs h =
-    let both = both_hold (is_global f) (have_no_ranges fs) h in
-    let first : with_range map f ns xs ≡ xs = range_none (is_global f) xs (items_set (shifted_value f map) (bits_of f map) f.start f.end ns xs) both.0 in
-    ap (with_all_ranges map fs ns) first ∙ no_ranges map fs ns xs both.1
 
 ranges_same : (p : Shaping) (ns : List ℕ) (v : View) → have_no_ranges p.features ≡ true → ranges_set p ns v ≡ as_it_is v
 ranges_same p ns v h = ap (λ xs. Ok (with_events [] (record v { items = xs }))) (no_ranges p.map p.features ns v.items h)

@@ -70,7 +70,7 @@ first_marked t m (g ∷ gs) = word_mark t (item_of g) (continues t None g.glyph_
 
 -- ---- scratch flags
 
-no_attachment : (a b c : Bool) → bit_and (bit_if a 1 + (bit_if b 2 + bit_if c 16)) 8 ≡ 0
+pub no_attachment : (a b c : Bool) → bit_and (bit_if a 1 + (bit_if b 2 + bit_if c 16)) 8 ≡ 0
 no_attachment true true true = refl
 no_attachment true true false = refl
 no_attachment true false true = refl
@@ -89,7 +89,7 @@ none_attached (x ∷ xs) scratch_flags h =
 
 -- ---- no circle, and the order of the writing
 
-no_circle : (a c d : Bool) → c ≡ false → ((a && c) && d) ≡ false
+pub no_circle : (a c d : Bool) → c ≡ false → ((a && c) && d) ≡ false
 no_circle a true d e = cc
 no_circle true false d e = refl
 no_circle false false d e = refl
@@ -100,7 +100,7 @@ circle_if b t v = if b then with_circle t v else as_it_is v
 uncircled : (font : FaceParts) (t : Tables) (flags : BufferFlags) (context : List ℕ) (v : View) → begins_with_mark v.items ≡ false → first_circle t font flags context v ≡ as_it_is v
 uncircled font t flags context v e = ap (λ b. circle_if b t v) (no_circle (flags_want_circle flags && length context == 0) (begins_with_mark v.items) (is_some (nominal_glyph DOTTED_CIRCLE font)) e)
 
-stays : (b : Bool) (d : Direction) → runs_against LeftToRight d ≡ false → runs_against LeftToRight (with_numbers b LeftToRight d) ≡ false
+pub stays : (b : Bool) (d : Direction) → runs_against LeftToRight d ≡ false → runs_against LeftToRight (with_numbers b LeftToRight d) ≡ false
 stays b RightToLeft h = cc
 stays true Invalid h = refl
 stays true LeftToRight h = refl

@@ -45,7 +45,7 @@ texts_begin_as_items p text r runs set unmarked e = let b = begun_is p text r ru
 
 -- ---- normalizing
 
-rotated_view : (t : Tables) (font : FaceParts) (d : Direction) (mask : ℕ) (b : Bool) (v : View) → d ≡ LeftToRight → (with_rotated_characters t font d mask b v).view ≡ v
+pub rotated_view : (t : Tables) (font : FaceParts) (d : Direction) (mask : ℕ) (b : Bool) (v : View) → d ≡ LeftToRight → (with_rotated_characters t font d mask b v).view ≡ v
 rotated_view t font d mask b v e = let P : Direction → Type 0 = λ c. (with_rotated_characters t font c mask b v).view ≡ v in subst P (sym e) refl
 
 limited_view : (b : Bool) (r s : Read) → ◌≡◌ {A = Reading} (if b then Ok r else Err TooLong) (Ok s) → r.view ≡ s.view

@@ -8,3 +8,4 @@ mod Limits
 mod Alike
 mod Budget
 mod Plain
+pub mod BreakLemmas

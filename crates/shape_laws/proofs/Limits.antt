@@ -11,8 +11,8 @@ use Rattle.buffer_parts.specs.Counting.{ReadingCounts, with_budget_changed}
 use Rattle.buffer_parts.specs.Lemmas.Alike.{at_alike, views_alike}
 use Rattle.layout_offsets.specs.Finishing.{all_drawn_if, has_attachments, links_followed}
 use Rattle.layout_offsets.specs.Starting.{links_cleared}
-use Rattle.layout_laws.specs.Lemmas.Budgets.{positioning_counts_budget, substitution_counts_budget}
-use Rattle.layout_laws.specs.Lemmas.Lengths.{positioning_depends_on_no_length, substitution_depends_on_no_length}
+use Rattle.layout_laws.proofs.Lemmas.Budgets.{positioning_counts_budget, substitution_counts_budget}
+use Rattle.layout_laws.proofs.Lemmas.Lengths.{positioning_depends_on_no_length, substitution_depends_on_no_length}
 use Rattle.layout_positioning.specs.Positioning.{positioning_stages}
 use Rattle.layout_substitution.specs.Substituting.{substitution_stages}
 use Rattle.script_plan.specs.Lemmas.Limits.{always_by, same_by, then_by}

@@ -11,9 +11,7 @@ pub mod Chains
 pub mod ThaiCharacters
 pub mod HangulCharacters
 pub mod ChainLaws
-pub mod Lemmas
 pub mod Links
-pub mod Changes
 pub mod InLine
 pub mod Apart
 pub mod GlyphLaws

@@ -118,15 +118,6 @@ advancing_less c now next lt step =
     let some = step.some in
     omega (arith, rest, some, lt, length-drop step.count (strip now.ahead), length-map next.ahead item_of, length-map now.ahead item_of)
 
-pub advancing_done : (c : Normalizer) (start now : Sides) → length now.ahead ≤ 0 → IsAdvancing c start now → AppendsArrangement (expanded_list c (strip start.ahead)) [] start now
-advancing_done c start now none w = by_case (strip now.ahead) refl
-  where
-    by_case : (xs : List Item) → strip now.ahead ≡ xs → AppendsArrangement (expanded_list c (strip start.ahead)) [] start now
-    by_case (x ∷ xs) e = absurd (let some = ap length e in omega (arith, some, none, length-map now.ahead item_of))
-    by_case [] e =
-        let whole : expanded_list c (strip start.ahead) ≡ w.done = w.whole ∙ ap (λ xs. beside w.done (expanded_list c xs)) e ∙ none_behind w.done in
-        subst (λ (a : Arrangement). AppendsArrangement a [] start now) (sym whole) (subst (λ xs. AppendsArrangement w.done xs start now) e w.brought)
-
 pub advancing_too_many : (c : Normalizer) (e : ShapeCause) (start now : Sides) → IsAdvancing c start now → RefusesRoomFor (length (expanded_list c (strip now.ahead)).items) e now
     → RefusesRoomFor (length (expanded_list c (strip start.ahead)).items) e start
 advancing_too_many c e start now w over =

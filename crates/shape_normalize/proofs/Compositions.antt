@@ -31,36 +31,6 @@ room_walked n s a room next kept = let same = ap length kept in room_kept s a (a
 pub room_passed : (s a : Sides) → HasRoom s → a ≡ after_next_glyphs 1 s → all_glyphs a ≡ all_glyphs s → HasRoom a
 room_passed s a = room_walked 1 s a
 
-pub room_merged : (from to : ℕ) (s a b : Sides) → HasRoom s → a ≡ after_next_glyphs 1 s → all_glyphs a ≡ all_glyphs s → b ≡ with_output_merged from to a → items_of b ≡ items_of a → HasRoom b
-room_merged from to s a b room next kept merges items = let same = merged_count s a b kept items in room_kept s b (ap frame_of merges ∙ ap frame_of next) (omega (arith, same)) room
-
-pub index_within : (s a b : Sides) → all_glyphs a ≡ all_glyphs s → items_of b ≡ items_of a → length s.behind ≤ length (all_glyphs b)
-index_within s a b kept items = let same = merged_count s a b kept items in let sides = length-append s.behind s.ahead in omega (arith, same, sides)
-
-pub mark_left : (s a b d : Sides) → 0 < length s.ahead → all_glyphs a ≡ all_glyphs s → items_of b ≡ items_of a → d ≡ after_move_to (length s.behind) b → 0 < length d.ahead
-mark_left s a b d some kept items back =
-    let same = merged_count s a b kept items in
-    let sides = length-append s.behind s.ahead in
-    let rest = ap (λ (t : Sides). length t.ahead) back ∙ length-drop (length s.behind) (all_glyphs b) in
-    omega (arith, rest, same, sides, some)
-
--- the events of the calls that delete a mark once it and its starter are one range
-pub mark_gone : (from to : ℕ) (s a b d e : Sides) → 0 < length s.ahead → a ≡ after_next_glyphs 1 s → all_glyphs a ≡ all_glyphs s → to ≡ length a.behind → b ≡ with_output_merged from to a → items_of b ≡ items_of a
-    → origins_of b ≡ origins_by (Merge InOutput from to ∷ []) a → d ≡ after_move_to (length s.behind) b → all_glyphs d ≡ all_glyphs b → e ≡ with_glyph_skipped d → origins_of e ≡ origins_by (Replace (length d.behind) 1 0 ∷ []) d
-    → origins_of e ≡ origins_by (composition_events from (length s.behind)) s
-mark_gone from to s a b d e some next kept ends merges items united back same gone left =
-    let n = length s.behind in
-    let count = merged_count s a b kept items in
-    let sides = length-append s.behind s.ahead in
-    let there : length d.behind ≡ n = ap (λ (t : Sides). length t.behind) back ∙ length-take-le n (all_glyphs b) (omega (arith, sides, count)) in
-    let upto : to ≡ n + 1 = ends ∙ one_behind s a some next in
-    let merged : origins_of b ≡ origins_by (Merge InOutput from (n + 1) ∷ []) s =
-    united ∙ ap (λ k. origins_by (Merge InOutput from k ∷ []) a) upto ∙ ap (λ (t : Sides). origins_after (flag_requests_of t) t.level (Merge InOutput from (n + 1) ∷ []) (origins_of a)) next
-    ∙ ap (λ gs. origins_after (flag_requests_of s) s.level (Merge InOutput from (n + 1) ∷ []) (origins gs)) kept in
-    left ∙ ap (λ k. origins_by (Replace k 1 0 ∷ []) d) there
-    ∙ ap (λ (t : Sides). origins_after (flag_requests_of t) t.level (Replace n 1 0 ∷ []) (origins_of d)) (back ∙ ap (after_move_to n) merges ∙ ap (λ t. after_move_to n (with_output_merged from to t)) next)
-    ∙ ap (λ gs. origins_after (flag_requests_of s) s.level (Replace n 1 0 ∷ []) (origins gs)) same ∙ ap (origins_after (flag_requests_of s) s.level (Replace n 1 0 ∷ [])) merged
-
 seen_all : (s a b : Sides) → all_glyphs a ≡ all_glyphs s → items_of b ≡ items_of a → strip (all_glyphs b) ≡ strip s.behind ++ strip s.ahead
 seen_all s a b kept items = items ∙ ap strip kept ∙ map-append item_of s.behind s.ahead
 
@@ -74,9 +44,6 @@ mark_ahead s a b d e kept items back gone =
     ap (λ (t : Sides). strip t.ahead) gone ∙ skipped_ahead d ∙ ap (λ (t : Sides). drop 1 (strip t.ahead)) back ∙ ap (drop 1)
     (sym (drop-map item_of (length s.behind) (all_glyphs b)) ∙ ap (drop (length s.behind)) (seen_all s a b kept items)
     ∙ ap (λ n. drop n (strip s.behind ++ strip s.ahead)) (sym (length-map s.behind item_of)) ∙ drop-append_seam (strip s.behind) (strip s.ahead))
-
-pub mark_frame : (from to n : ℕ) (s a b d e : Sides) → a ≡ after_next_glyphs 1 s → b ≡ with_output_merged from to a → d ≡ after_move_to n b → e ≡ with_glyph_skipped d → frame_of e ≡ frame_of s
-mark_frame from to n s a b d e next merges back gone = ap frame_of gone ∙ ap frame_of back ∙ ap frame_of merges ∙ ap frame_of next
 
 pub length_set : {X : Type 0} (xs : List X) (i : ℕ) (x : X) → length (slice_set xs i x) ≡ length xs
 length_set [] i x = refl
@@ -100,23 +67,11 @@ set_across [] ys i x lt = absurd (omega (arith, lt))
 set_across (z ∷ xs) ys zero x lt = refl
 set_across (z ∷ xs) ys (suc i) x lt = ap (λ zs. z ∷ zs) (set_across xs ys i x (omega (arith, lt)))
 
-pub there_ahead : (at : ℕ) (s a : Sides) → at < length s.behind → a ≡ after_move_to at s → 0 < length a.ahead
-there_ahead at s a lt is =
-    let rest = ap (λ (t : Sides). length t.ahead) is ∙ length-drop at (all_glyphs s) in
-    let sides = length-append s.behind s.ahead in
-    omega (arith, rest, sides, lt)
-
 written_all : (at : ℕ) (g : hb_glyph_info_t) (s a b : Sides) → at < length s.behind → a ≡ after_move_to at s → b ≡ with_glyph_ahead 0 g a → all_glyphs b ≡ slice_set s.behind at g ++ s.ahead
 written_all at g s a b lt is set = ap all_glyphs set ∙ ap (λ (t : Sides). t.behind ++ slice_set t.ahead 0 g) is ∙ set_across s.behind s.ahead at g lt
 
 written_count : (at : ℕ) (g : hb_glyph_info_t) (s a b : Sides) → at < length s.behind → a ≡ after_move_to at s → b ≡ with_glyph_ahead 0 g a → length (all_glyphs b) ≡ length s.behind + length s.ahead
 written_count at g s a b lt is set = ap length (written_all at g s a b lt is set) ∙ length-append (slice_set s.behind at g) s.ahead ∙ ap (λ n. n + length s.ahead) (length_set s.behind at g)
-
-pub room_written : (at : ℕ) (g : hb_glyph_info_t) (s a b : Sides) → HasRoom s → at < length s.behind → a ≡ after_move_to at s → b ≡ with_glyph_ahead 0 g a → HasRoom b
-room_written at g s a b room lt is set =
-    let count = written_count at g s a b lt is set in
-    let sides = length-append s.behind s.ahead in
-    room_kept s b (ap frame_of set ∙ ap frame_of is) (omega (arith, count, sides)) room
 
 pub back_within : (at : ℕ) (g : hb_glyph_info_t) (s a b : Sides) → at < length s.behind → a ≡ after_move_to at s → b ≡ with_glyph_ahead 0 g a → length s.behind ≤ length (all_glyphs b)
 back_within at g s a b lt is set = let count = written_count at g s a b lt is set in omega (arith, count)
@@ -151,15 +106,3 @@ pub item_same : (starter : ℕ) (g : hb_glyph_info_t) (x : Item) (old mid : Side
 item_same starter g x old mid behind at seen =
     let both : Some (item_of g) ≡ Some x = sym (slice_get-map item_of mid.behind starter ∙ ap (option_map item_of) at) ∙ ap (λ xs. slice_get xs starter) behind ∙ seen in
     cc
-
-pub out_within : (starter : ℕ) (old mid : Sides) → strip mid.behind ≡ strip old.behind → length mid.behind ≡ length old.behind
-out_within starter old mid behind = sym (length-map mid.behind item_of) ∙ ap length behind ∙ length-map old.behind item_of
-
-pub room_left : (old mid : Sides) → HasRoom old → strip mid.behind ≡ strip old.behind → strip mid.ahead ≡ drop 1 (strip old.ahead) → frame_of mid ≡ frame_of old → HasRoom mid
-room_left old mid room behind ahead frame =
-    let front = sym (length-map mid.behind item_of) ∙ ap length behind ∙ length-map old.behind item_of in
-    let back = sym (length-map mid.ahead item_of) ∙ ap length ahead ∙ length-drop 1 (strip old.ahead) in
-    let few = length-map old.ahead item_of in
-    let new_sides = length-append mid.behind mid.ahead in
-    let old_sides = length-append old.behind old.ahead in
-    room_kept old mid frame (omega (arith, front, back, few, new_sides, old_sides)) room

@@ -4,7 +4,7 @@ use Rattle.std.proofs.lemmas.List.{take_all, drop_all, take-append-drop, map-app
 use Rattle.buffer_glyphs.specs.declared.cause.ShapeCause.{ShapeCause}
 use Rattle.buffer_glyphs.specs.declared.info.hb_glyph_info_t.{hb_glyph_info_t}
 use Rattle.buffer_glyphs.specs.Items.{Item, item_of, strip}
-use Rattle.buffer_glyphs.specs.Lists.{take_next, drop_next}
+use Rattle.buffer_glyphs.proofs.Lists.{take_next, drop_next}
 use Rattle.buffer_core.specs.Sides.{Sides}
 use Rattle.buffer_glyphs.specs.Rewriting.{Arrangement, in_turn}
 use Rattle.buffer_stages.specs.Appending.{AppendsArrangement, RefusesRoomFor}
@@ -15,13 +15,6 @@ pub record IsUnderway (f : Item → Arrangement) (n at : ℕ) (start now : Sides
   pub is_open : now.is_open ≡ true
   pub left : length start.ahead ≡ length now.ahead + at
   pub brought : (xs ys : List Item) → strip start.ahead ≡ xs ++ ys → length xs ≡ n → AppendsArrangement (in_turn (map f (take at xs))) (drop at xs ++ ys) start now
-
-pub each_begun : (f : Item → Arrangement) (n : ℕ) (s : Sides) → s.is_open ≡ true → IsUnderway f n 0 s s
-each_begun f n s opened = record {
-  is_open = opened;
-  left = omega arith;
-  brought = λ xs ys e len. subst (λ zs. AppendsArrangement (in_turn []) zs s s) e (brought_none s);
-}
 
 -- what a call at the cursor leaves of the buffer
 abbrev Goes : (Item → Arrangement) → Sides → Sides → Type 0
@@ -60,15 +53,6 @@ each_more f n at start now next lt some u goes = record {
         let taken : map f (take (at + 1) xs) ≡ map f (take at xs) ++ f z ∷ [] = ap (map f) (take_next xs at ∙ ap (λ q. take at xs ++ take 1 q) e) ∙ map-append f (take at xs) (z ∷ []) in
         let rest : drop (at + 1) xs ≡ zs = sym (drop_next xs at) ∙ ap (drop 1) e in
         rw (taken, rest) more
-
--- all of them
-pub each_done : (f : Item → Arrangement) (n at : ℕ) (start now : Sides) → n ≤ at → IsUnderway f n at start now → (xs ys : List Item) → strip start.ahead ≡ xs ++ ys → length xs ≡ n → AppendsArrangement (in_turn (map f xs)) ys start now
-each_done f n at start now le u xs ys e len =
-    let all : take at xs ≡ xs = take_all at xs (omega (arith, le, len)) in
-    let none : drop at xs ≡ [] = drop_all at xs (omega (arith, le, len)) in
-    let P : List Item → Type 0 = λ zs. AppendsArrangement (in_turn (map f (take at xs))) (zs ++ ys) start now in
-    let Q : List Item → Type 0 = λ zs. AppendsArrangement (in_turn (map f zs)) ys start now in
-    subst Q all (subst P none (u.brought xs ys e len))
 
 pub each_too_many : (f : Item → Arrangement) (n at : ℕ) (e : ShapeCause) (start now : Sides) → at < n → IsUnderway f n at start now → ((x : Item) (xs : List Item) → strip now.ahead ≡ x ∷ xs → RefusesRoomFor (length (f x).items) e now)
     → (xs ys : List Item) → strip start.ahead ≡ xs ++ ys → length xs ≡ n → RefusesRoomFor (length (in_turn (map f xs)).items) e start

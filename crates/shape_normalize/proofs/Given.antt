@@ -6,11 +6,11 @@ use Rattle.std.proofs.lemmas.Option.{slice_get-get_or}
 use Rattle.buffer_glyphs.specs.declared.cause.ShapeCause.{ShapeCause}
 use Rattle.buffer_glyphs.specs.declared.info.hb_glyph_info_t.{hb_glyph_info_t}
 use Rattle.buffer_glyphs.specs.Items.{Item, strip}
-use Rattle.buffer_glyphs.specs.Lists.{map_step}
+use Rattle.buffer_glyphs.proofs.Lists.{map_step}
 use Rattle.buffer_glyphs.specs.Origins.{origin_of, origins}
 use Rattle.buffer_glyphs.specs.Events.{origins_after}
 use Rattle.buffer_glyphs.specs.Rewriting.{Arrangement, shifted_event}
-use Rattle.buffer_lists.specs.Lemmas.Neighbours.{no_glyph}
+use Rattle.buffer_lists.proofs.Lemmas.Neighbours.{no_glyph}
 use Rattle.buffer_core.specs.Sides.{Sides, all_glyphs, flag_requests_of}
 use Rattle.buffer_core.specs.Lending.{with_glyph_ahead}
 use Rattle.buffer_properties.specs.Expanding.{expanded_list, with_own_glyph}
@@ -83,8 +83,3 @@ given_more c i start now next lt is goes =
     let g = get_or now.ahead i no_glyph in
     goes g (slice_get-get_or now.ahead i no_glyph (omega (arith, lt, long, there))) ∙ ap (λ (q : Sides). with_glyph_ahead i (f g) q) is
     ∙ ap (λ (hs : List hb_glyph_info_t). record start { ahead = hs }) (map_step f start.ahead gs i no_glyph (f g) lt long refl (ap (λ hs. f (get_or hs i no_glyph)) seen))
-
-pub given_done : (c : Normalizer) (i : ℕ) (start now : Sides) → length start.ahead ≤ i → now ≡ record start { ahead = map (glyph_with_own c) (take i start.ahead) ++ drop i start.ahead } → IsGiven c start now
-given_done c i start now le is =
-    is ∙ ap (λ (gs : List hb_glyph_info_t). record start { ahead = gs })
-    (ap (λ gs. map (glyph_with_own c) gs ++ drop i start.ahead) (take_all i start.ahead le) ∙ ap (λ gs. map (glyph_with_own c) start.ahead ++ gs) (drop_all i start.ahead le) ∙ append-nil (map (glyph_with_own c) start.ahead))

@@ -11,12 +11,9 @@ use Rattle.buffer_core.specs.Readings.{Read, View}
 use Rattle.buffer_core.specs.Sides.{Sides, all_glyphs, stage_flags, items_of, view_of, origins_by, settings_of, with_output, after_sync, fits_joined, has_room, zero_positions}
 use Rattle.buffer_stages.specs.Ready.{IsReady}
 use Rattle.buffer_glyphs.specs.Rewriting.{Arrangement}
-use Rattle.shape_normalize.proofs.Lemmas.Chain.{all_shifted_none}
 use Rattle.buffer_stages.specs.Appending.{AppendsArrangement, RefusesRoomFor, with_arranged, within_limit}
 use Rattle.shape_normalize.specs.Rounds.{IsArranged}
-
-further_none : (n : ℕ) → 0 + n ≡ n
-further_none n = omega arith
+use Rattle.buffer_stages.specs.Lemmas.Shifts.{shift_none as all_shifted_none}
 
 walked_items : (a : Arrangement) (s mid : Sides) → AppendsArrangement a [] (with_output s) mid → items_of mid ≡ a.items
 walked_items a s mid b = map-append item_of mid.behind mid.ahead ∙ ap (λ xs. xs ++ strip mid.ahead) b.behind ∙ ap (λ xs. a.items ++ xs) b.ahead ∙ append-nil a.items
@@ -73,8 +70,3 @@ list_fits a s mid b fits = let few = fits_pieces mid fits in omega (arith, few, 
 
 pub list_overfills : (a : Arrangement) (s : Sides) (e : ShapeCause) → RefusesRoomFor (length a.items) e (with_output s) → e ≢ OutOfMemory → (e ≡ TooLong) × (s.max_len < length a.items)
 list_overfills a s e over some = let past = over some in let lt = past.1 in (past.0, omega (arith, lt))
-
-pub list_too_long : (a : Arrangement) (s mid : Sides) → IsReady s → AppendsArrangement a [] (with_output s) mid → fits_joined mid ≡ false → s.max_len < length a.items
-list_too_long a s mid ready b full =
-    let lt = too_long mid (ap (λ (t : Sides). t.has_refused) b.frame ∙ ready.unrefused) full in
-    omega (arith, lt, walked_count a s mid b, same_limit a s mid b)

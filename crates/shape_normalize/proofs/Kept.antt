@@ -35,9 +35,6 @@ pub record IsCounting (from i : ℕ) (gs : List hb_glyph_info_t) : Type 0 where
   pub within : i ≤ length gs
   pub marks : prefix_len is_mark (drop from (strip gs)) + from ≡ i + prefix_len is_mark (drop i (strip gs))
 
-pub counting_begun : (from : ℕ) (gs : List hb_glyph_info_t) → from ≤ length gs → IsCounting from from gs
-counting_begun from gs le = record { ordered = omega arith; within = le; marks = omega arith }
-
 pub counting_more : (from i n : ℕ) (g : hb_glyph_info_t) (gs : List hb_glyph_info_t) → n ≡ length gs → i < n → slice_get gs i ≡ Some g → is_mark (item_of g) ≡ true → IsCounting from i gs → IsCounting from (i + 1) gs
 counting_more from i n g gs all lt at mark w =
     let step = marks_step i g gs at ∙ cond-true _ _ _ mark in
@@ -50,13 +47,6 @@ counting_stopped from i g gs at other w =
     let step = marks_step i g gs at ∙ cond-false _ _ _ other in
     let before = w.marks in
     omega (arith, before, step)
-
-pub counting_done : (from i n : ℕ) (gs : List hb_glyph_info_t) → n ≡ length gs → n ≤ i → IsCounting from i gs → prefix_len is_mark (drop from (strip gs)) + from ≡ n
-counting_done from i n gs all le w =
-    let none = ap (prefix_len is_mark) (drop_all i (strip gs) (omega (arith, le, all, length-map gs item_of))) in
-    let before = w.marks in
-    let within = w.within in
-    omega (arith, before, none, within, all, le)
 
 -- ---- so many characters from an index on
 

@@ -14,7 +14,7 @@ nothing_known c n = record { each = All-replicate (IsUndecomposed c) n None (λ 
 pub row_known : (c : Normalizer) (i n u : ℕ) (rows : List (Option ℕ)) (d : Option ℕ) → i < length rows → AreUndecomposed c rows → get_or rows i d ≡ Some n → n ≡ u → true ≡ is_none (c.splits u)
 row_known c i n u rows d lt h there e = sym (ap is_none (All-get_or (IsUndecomposed c) rows i d lt h.each u (there ∙ ap Some e)))
 
-has_none : {X : Type 0} (o : Option X) → is_some o ≡ false → o ≡ None
+pub has_none : {X : Type 0} (o : Option X) → is_some o ≡ false → o ≡ None
 has_none None e = refl
 has_none (Some x) e = absurd (let bad = e in cc)
 

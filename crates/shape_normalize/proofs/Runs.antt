@@ -23,10 +23,12 @@ use Rattle.buffer_properties.specs.Characters.{mark_class}
 use Rattle.buffer_properties.specs.Ordering.{arranged_run, arranged_runs, ordered_list, sorted_order}
 use Rattle.buffer_stages.specs.Appending.{frame_of}
 use Rattle.buffer_stages.specs.Rearranged.{IsRearranged, Rearranges}
-use Rattle.shape_normalize.proofs.Lemmas.Chain.{all_shifted_none, in_turn_both, items_both}
+use Rattle.shape_normalize.proofs.Lemmas.Chain.{in_turn_both, items_both}
 use Rattle.shape_normalize.specs.Runs.{in_class_order, RunsOn, Meets}
 use Rattle.shape_normalize.proofs.Sorted.{sorted_order_is}
-use Rattle.shape_normalize.proofs.Walk.{by_frame, get_seam}
+use Rattle.shape_normalize.proofs.Walk.{by_frame}
+use Rattle.buffer_stages.specs.Lemmas.Shifts.{shift_none as all_shifted_none}
+use Rattle.buffer_lists.specs.Lemmas.Picked.{got_after as get_seam}
 
 -- ---- a sort
 
@@ -231,23 +233,6 @@ ordering_begun r count s ready len = record {
   ready = ready;
   whole = refl;
 }
-
-pub ordering_ready : (r : List Item → Arrangement) (count at start : ℕ) (s now : Sides) → IsOrdering r count at start s now → IsReady now
-ordering_ready r count at start s now w = w.ready
-
-pub ordering_begins : (r : List Item → Arrangement) (count at start : ℕ) (s now : Sides) → IsOrdering r count at start s now → start ≤ at
-ordering_begins r count at start s now w = let met = w.met in omega (arith, met)
-
-pub ordering_upto : (r : List Item → Arrangement) (count at start : ℕ) (s now : Sides) → IsOrdering r count at start s now → length (all_glyphs now) ≡ count
-ordering_upto r count at start s now w =
-    let all = ap (λ (zs : List Item). length zs) w.items in
-    let begins = w.begins in
-    let met = w.met in
-    let left = w.left in
-    omega (arith, all, begins, met, left, length-map (all_glyphs now) item_of, length-append (in_turn w.ps).items (w.run ++ w.ys), length-append w.run w.ys)
-
-pub ordering_there : (r : List Item → Arrangement) (count at start : ℕ) (s now : Sides) → at < count → IsOrdering r count at start s now → at < length (all_glyphs now)
-ordering_there r count at start s now lt w = let upto = ordering_upto r count at start s now w in omega (arith, lt, upto)
 
 -- what was arranged, and then a run and the starter after it
 turned : (ps : List Arrangement) (a : Arrangement) (y : Item) → (in_turn (ps ++ a ∷ eventless_arrangement (y ∷ []) ∷ [])).items ≡ (in_turn ps).items ++ (a.items ++ y ∷ [])

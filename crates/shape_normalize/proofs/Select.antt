@@ -186,12 +186,6 @@ behind_waits c g s new at other goes None y ys w seen = absurd (let bad = w in c
 behind_waits c g s new at other goes (Some x) y ys w seen =
     selects_case c (Some x) y ys false s new (ap is_selector (sym (second_number g s.ahead x y ys at seen)) ∙ other) (refl, subst (λ a. AppendsArrangement a (y ∷ ys) s new) (sym (none_behind (unexpanded_item c x))) (goes x (y ∷ ys) seen))
 
-pub behind_too_many : (c : Normalizer) (g : hb_glyph_info_t) (e : ShapeCause) (s : Sides) → slice_get s.ahead 1 ≡ Some g → is_selector (item_of g) ≡ false → RefusesRoomFor 1 e s → SelectsTooMany c true e s
-behind_too_many c g e s at other over None y ys w seen = absurd (let bad = w in cc)
-behind_too_many c g e s at other over (Some x) y ys w seen =
-    let there : is_selector y ≡ false = ap is_selector (sym (second_number g s.ahead x y ys at seen)) ∙ other in
-    rw there over
-
 -- one waits, and a selector is met
 pub selector_met : (c : Normalizer) (g : hb_glyph_info_t) (s new : Sides) → slice_get s.ahead 1 ≡ Some g → is_selector (item_of g) ≡ true
     → ((x sel : Item) (xs : List Item) → strip s.ahead ≡ x ∷ sel ∷ xs → AppendsArrangement (in_turn (selection c x sel (c.variant_of x.number sel.number))) xs s new) → Selects c true false s new
@@ -206,10 +200,6 @@ met_too_many c g e s at picks goes (Some x) y ys w seen =
     rw there (goes x y ys seen)
 
 -- ---- the last item
-
-pub none_put : (c : Normalizer) (s : Sides) (waits : Bool) → waits ≡ false → PutsWaiting c waits s s
-none_put c s waits off None ys w seen = subst (λ zs. AppendsArrangement (in_turn []) zs s s) seen (brought_none s)
-none_put c s waits off (Some x) ys w seen = absurd (let bad = w ∙ off in cc)
 
 pub one_put : (c : Normalizer) (s new : Sides) (waits : Bool) → waits ≡ true → ((x : Item) (xs : List Item) → strip s.ahead ≡ x ∷ xs → AppendsArrangement (unexpanded_item c x) xs s new) → PutsWaiting c waits s new
 one_put c s new waits on goes None ys w seen = absurd (let bad = w ∙ on in cc)

@@ -5,7 +5,7 @@ use Rattle.std.proofs.lemmas.List.{append-nil, length-map, length-drop}
 use Rattle.buffer_glyphs.specs.declared.cause.ShapeCause.{ShapeCause}
 use Rattle.buffer_glyphs.specs.declared.info.hb_glyph_info_t.{hb_glyph_info_t}
 use Rattle.buffer_glyphs.specs.Items.{Item, item_of, strip}
-use Rattle.buffer_glyphs.specs.Lists.{drop_next}
+use Rattle.buffer_glyphs.proofs.Lists.{drop_next}
 use Rattle.buffer_core.specs.Sides.{Sides}
 use Rattle.buffer_glyphs.specs.Rewriting.{Arrangement, in_turn}
 use Rattle.buffer_properties.specs.Characters.{is_selector}

@@ -17,7 +17,8 @@ use Rattle.buffer_properties.specs.Ordering.{joiner_between, joiners_shown, sepa
 use Rattle.buffer_stages.specs.Appending.{frame_of}
 use Rattle.shape_normalize.specs.Runs.{HasItems, ShowsAt}
 use Rattle.shape_normalize.proofs.Compositions.{length_set, set_seen, set_same}
-use Rattle.shape_normalize.proofs.Walk.{get_seam, set_seam}
+use Rattle.shape_normalize.proofs.Walk.{set_seam}
+use Rattle.buffer_lists.specs.Lemmas.Picked.{got_after as get_seam}
 
 all_ahead : (s : Sides) → IsReady s → all_glyphs s ≡ s.ahead
 all_ahead s ready = ap (λ hs. hs ++ s.ahead) ready.front
@@ -131,9 +132,6 @@ showing_begun count n g s ready len some at class = by_case s.ahead refl
           whole = ap joiners_shown (sym items);
         }
 
-pub showing_ready : (count at k : ℕ) (s now : Sides) → IsShowing count at k s now → IsReady now
-showing_ready count at k s now w = w.has.ready
-
 count_now : (count at k : ℕ) (s now : Sides) → IsShowing count at k s now → length now.ahead ≡ count
 count_now count at k s now w =
     let all = ap (λ (xs : List Item). length xs) w.has.items in
@@ -141,9 +139,6 @@ count_now count at k s now w =
     let left = w.left in
     let there = ap (λ (gs : List hb_glyph_info_t). length gs) (all_ahead now w.has.ready) in
     omega (arith, all, met, left, there, length-map (all_glyphs now) item_of, length-append w.done w.rest)
-
-pub showing_there : (count at k : ℕ) (s now : Sides) → 2 ≤ count → at < count - 1 → IsShowing count at k s now → at + 1 < length now.ahead
-showing_there count at k s now some lt w = let many = count_now count at k s now w in omega (arith, many, lt, some)
 
 pub showing_more : (count at k n : ℕ) (s now next : Sides) → 2 ≤ count → at < count - 1 → IsShowing count at k s now → ShowsAt k at n now next → IsShowing count (at + 1) n s next
 showing_more count at k n s now next some lt w goes = by_case w.rest refl
@@ -177,14 +172,6 @@ showing_done count at k s now some le ge w = by_case w.rest refl
       frame = w.has.frame;
       ready = w.has.ready;
     }
-
-pub few_stay : (s : Sides) → IsReady s → length s.ahead < 2 → HasItems (joiners_shown (items_of s)) s s
-few_stay s ready few = by_case s.ahead refl
-  where
-    by_case : (gs : List hb_glyph_info_t) → s.ahead ≡ gs → HasItems (joiners_shown (items_of s)) s s
-    by_case (g ∷ h ∷ gs) e = absurd (let many = ap length e in omega (arith, many, few))
-    by_case [] e = let items : items_of s ≡ [] = ap strip (all_ahead s ready ∙ e) in stays (joiners_shown (items_of s)) s (items ∙ ap joiners_shown (sym items)) ready
-    by_case (g ∷ []) e = let items : items_of s ≡ item_of g ∷ [] = ap strip (all_ahead s ready ∙ e) in stays (joiners_shown (items_of s)) s (items ∙ ap joiners_shown (sym items)) ready
 
 -- ---- no joiner at all
 

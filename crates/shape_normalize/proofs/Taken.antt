@@ -31,7 +31,7 @@ use Rattle.shape_normalize.specs.Fronts.{StaysWhole, TakesFront, TakesGlyphs, ex
 use Rattle.shape_normalize.specs.Rounds.{IsArranged}
 use Rattle.shape_normalize.proofs.Joined.{list_overfills}
 use Rattle.shape_normalize.proofs.Lemmas.Chain.{beside_assoc, brought_then, in_turn_both, none_beside, overfills_behind}
-use Rattle.shape_normalize.proofs.Whole.{by_settings}
+use Rattle.buffer_stages.specs.Lemmas.Rewritings.{by_settings}
 
 -- ---- one character
 

@@ -13,7 +13,9 @@ use Rattle.buffer_properties.specs.Characters.{is_mark, mark_class}
 use Rattle.buffer_properties.specs.Composing.{becoming, composite, composed_list, composition_from, is_not_blocked, last_class}
 use Rattle.buffer_properties.specs.Normalizer.{Normalizer}
 use Rattle.shape_normalize.specs.Starters.{become, IsUncomposed, StaysApart}
-use Rattle.shape_normalize.proofs.Walk.{get_seam, no_mark, out_of_reach, passed_from}
+use Rattle.shape_normalize.proofs.Walk.{no_mark, out_of_reach, passed_from}
+use Rattle.shape_normalize.proofs.Remembered.{has_none as none_there}
+use Rattle.buffer_lists.specs.Lemmas.Picked.{got_after as get_seam}
 
 -- ---- the mark at an index
 
@@ -63,10 +65,6 @@ blocked_stays c n at gs g h there on far before le done x (z ∷ zs) y ys pieces
     let t : nat_lt (last_class (mark_class z) zs) (mark_class y) ≡ false = grind (arith, nat_tests, class, own, le) in
     out_of_reach c x (z ∷ zs) y (ap is_mark (sym same) ∙ on) t
 
-none_there : {X : Type 0} (o : Option X) → is_some o ≡ false → o ≡ None
-none_there None e = refl
-none_there (Some x) e = absurd (let bad = e in cc)
-
 -- nor is one with which the starter has no composite in the font
 pub uncomposed_stays : (c : Normalizer) (n at : ℕ) (gs : List hb_glyph_info_t) (f g : hb_glyph_info_t) (o : Option (ℕ × ℕ)) → slice_get gs n ≡ Some f → slice_get gs at ≡ Some g
     → become c (item_of f) o ≡ option_and_then (becoming c (item_of f)) (c.composes f.glyph_id g.glyph_id) → is_some o ≡ false → StaysApart c n at (strip gs)
@@ -87,9 +85,6 @@ uncomposed_stays c n at gs f g o first there is none done x between y ys pieces 
 pub search_begun : (c : Normalizer) (gs : List hb_glyph_info_t) → length gs ≢ 0 → IsUncomposed c 1 0 (strip gs)
 search_begun c [] some = absurd (some refl)
 search_begun c (g ∷ gs) some = record { done = []; x = item_of g; between = []; ys = strip gs; pieces = refl; starts = refl; ends = refl; whole = refl }
-
-pub starter_before : (c : Normalizer) (at n : ℕ) (xs : List Item) → IsUncomposed c at n xs → n < at
-starter_before c at n xs w = let starts = w.starts in let ends = w.ends in omega (arith, starts, ends)
 
 pub search_more : (c : Normalizer) (at n m : ℕ) (xs : List Item) → at < length xs → IsUncomposed c at n xs → StaysApart c n at xs → ((y : Item) → slice_get xs at ≡ Some y → m ≡ (if mark_class y == 0 then at else n))
     → IsUncomposed c (at + 1) m xs
@@ -133,17 +128,3 @@ search_more c at n m xs lt w stays next = by_case w.ys refl
           ends = let sides = length-append w.between (y ∷ []) in let ends = w.ends in omega (arith, sides, ends);
           whole = passed ∙ cond-false _ _ _ t;
         }
-
-pub search_done : (c : Normalizer) (at n : ℕ) (xs : List Item) → length xs ≤ at → IsUncomposed c at n xs → composed_list c xs ≡ eventless_arrangement xs
-search_done c at n xs le w = by_case w.ys refl
-  where
-    by_case : (zs : List Item) → w.ys ≡ zs → composed_list c xs ≡ eventless_arrangement xs
-    by_case (y ∷ ys) e =
-        let all = ap length (w.pieces ∙ ap (λ zs. w.done ++ w.x ∷ (w.between ++ zs)) e ∙ sym (append_assoc w.done (w.x ∷ w.between) (y ∷ ys))) in
-        let sides = length-append (w.done ++ w.x ∷ w.between) (y ∷ ys) in
-        let front = length-append w.done (w.x ∷ w.between) in
-        let ends = w.ends in
-        absurd (omega (arith, all, sides, front, ends, le))
-    by_case [] e =
-        w.whole ∙ ap (composition_from c w.done w.x w.between) e
-        ∙ ap eventless_arrangement (sym (w.pieces ∙ ap (λ zs. w.done ++ w.x ∷ (w.between ++ zs)) e ∙ ap (λ zs. w.done ++ w.x ∷ zs) (append-nil w.between)))

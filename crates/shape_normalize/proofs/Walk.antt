@@ -17,11 +17,12 @@ use Rattle.buffer_properties.specs.Characters.{is_mark, mark_class}
 use Rattle.buffer_properties.specs.Composing.{becoming, composite, composition_from, composed_list, with_composition, is_not_blocked, last_class}
 use Rattle.buffer_properties.specs.Normalizer.{Normalizer}
 use Rattle.buffer_stages.specs.Appending.{AppendsArrangement, frame_of}
-use Rattle.shape_normalize.proofs.Lemmas.Chain.{all_shifted_none}
 use Rattle.shape_normalize.specs.Composed.{composition_events, HasRoom}
 use Rattle.shape_normalize.specs.Starters.{IsAt, IsUncomposed, Joins, Composes}
 use Rattle.shape_normalize.proofs.Room.{room_kept}
 use Rattle.shape_normalize.proofs.Compositions.{room_passed, room_walked}
+use Rattle.buffer_lists.specs.Lemmas.Picked.{got_after as get_seam}
+use Rattle.buffer_stages.specs.Lemmas.Shifts.{shift_none as all_shifted_none}
 
 -- events, and then an arrangement
 abbrev before : List Event → Arrangement → Arrangement
@@ -76,15 +77,6 @@ composing_begun c at n count s p room front len lt w next kept =
       room = room_walked at s p room next kept;
       whole = ap (composed_list c) (items_passed s p front kept) ∙ w.whole;
     }
-
-pub composing_room : (c : Normalizer) (goal : Arrangement) (count at n : ℕ) (start now : Sides) → IsComposing c goal count at n start now → HasRoom now
-composing_room c goal count at n start now w = w.room
-
-pub composing_there : (c : Normalizer) (goal : Arrangement) (count at n : ℕ) (start now : Sides) → at < count → IsComposing c goal count at n start now → 0 < length now.ahead
-composing_there c goal count at n start now lt w =
-    let seen = ap length w.ahead in
-    let left = w.left in
-    omega (arith, seen, left, lt, length-map now.ahead item_of)
 
 pub composing_behind : (c : Normalizer) (goal : Arrangement) (count at n : ℕ) (start now : Sides) → IsComposing c goal count at n start now → n < length now.behind
 composing_behind c goal count at n start now w =
@@ -255,10 +247,6 @@ composing_done c count at from n s p now le front next same w = by_case w.ys ref
 
 -- ---- what a mark reaches
 
-pub get_seam : {X : Type 0} (xs : List X) (z : X) (zs : List X) → slice_get (xs ++ z ∷ zs) (length xs) ≡ Some z
-get_seam [] z zs = refl
-get_seam (x ∷ xs) z zs = get_seam xs z zs
-
 pub starter_there : (n : ℕ) (done : List Item) (x : Item) (between : List Item) (y : Item) (ys : List Item) (s : Sides) → IsAt n done x between y ys s → slice_get (strip s.behind) n ≡ Some x
 starter_there n done x between y ys s at = ap (λ xs. slice_get xs n) at.behind ∙ ap (slice_get (done ++ x ∷ between)) (sym at.starts) ∙ get_seam done x between
 
@@ -283,13 +271,6 @@ last_at xs z [] w e =
 last_at xs z (v ∷ zs) w e =
     last_at (xs ++ z ∷ []) v zs w
     (ap₂ slice_get (append_assoc xs (z ∷ []) (v ∷ zs)) (let one = length-append xs (z ∷ []) in omega (arith, one)) ∙ e)
-
-pub reaches_beside : (n : ℕ) (done : List Item) (x : Item) (between : List Item) (y : Item) (ys : List Item) (s : Sides) → IsAt n done x between y ys s → length s.behind ≡ n + 1 → is_not_blocked between y ≡ true
-reaches_beside n done x [] y ys s at e = refl
-reaches_beside n done x (z ∷ zs) y ys s at e =
-    let there = count_at done x (z ∷ zs) s at.behind in
-    let starts = at.starts in
-    absurd (omega (arith, there, starts, e))
 
 pub reaches_past : (n : ℕ) (done : List Item) (x : Item) (between : List Item) (y : Item) (ys : List Item) (g h : hb_glyph_info_t) (s : Sides) → IsAt n done x between y ys s → length s.behind ≢ n + 1
     → slice_get s.behind (length s.behind - 1) ≡ Some g → slice_get s.ahead 0 ≡ Some h → is_not_blocked between y ≡ nat_lt (mark_class (item_of g)) (mark_class (item_of h))

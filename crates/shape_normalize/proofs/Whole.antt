@@ -23,10 +23,11 @@ use Rattle.buffer_properties.specs.NormalizedList.{arranged_marks, composition_i
 use Rattle.buffer_properties.specs.Ordering.{joiners_shown, ordered_list}
 use Rattle.buffer_stages.specs.Appending.{with_arranged, within_limit}
 use Rattle.buffer_stages.specs.Rearranged.{IsRearranged}
-use Rattle.shape_normalize.proofs.Lemmas.Chain.{all_shifted_none}
 use Rattle.shape_normalize.specs.Rounds.{IsArranged, normalization}
 use Rattle.shape_normalize.specs.Runs.{HasItems}
 use Rattle.shape_normalize.proofs.Joined.{has_limit, past_limit}
+use Rattle.buffer_stages.specs.Lemmas.Rewritings.{by_settings}
+use Rattle.buffer_stages.specs.Lemmas.Shifts.{shift_none as all_shifted_none}
 
 any_mark_seen : (gs : List hb_glyph_info_t) → list_any is_mark (strip gs) ≡ list_any (λ (g : hb_glyph_info_t). is_mark (item_of g)) gs
 any_mark_seen [] = refl
@@ -38,11 +39,6 @@ later_mark_seen g gs = any_mark_seen gs
 -- one arrangement's items after the events of two
 abbrev and_then : Arrangement → Arrangement → Arrangement
 and_then a b = record { items = b.items; events = a.events ++ b.events }
-
-pub by_settings : (es : List Event) (a b : Sides) → settings_of b ≡ settings_of a → origins_by es b ≡ origins_after (flag_requests_of a) a.level es (origins_of b)
-by_settings es a b e =
-    ap (λ (st : Settings). origins_after (flag_requests_of b) st.level es (origins_of b)) e
-    ∙ ap (λ (st : Settings). origins_after (record { concat = bit_and st.flags.0 64 == 64; tatweel = bit_and st.flags.0 128 == 128; breaks = bit_and st.flags.0 256 == 256 }) a.level es (origins_of b)) e
 
 arranged_both : (a b : Arrangement) (s t u : Sides) → IsArranged a s t → IsArranged b t u → IsArranged (and_then a b) s u
 arranged_both a b s t u f g = record {
@@ -139,6 +135,3 @@ all_followed c b s t u some one room two =
     let fits : within_limit (length (expanded_list c (items_of s)).items) (view_of s) (with_arranged (normalized_items c (items_of s)) (view_of s)) ≡ Ok (with_arranged (normalized_items c (items_of s)) (view_of s)) =
     has_limit (length (expanded_list c (items_of s)).items) (with_arranged (normalized_items c (items_of s)) (view_of s)) (view_of s) room in
     happened_followed (normalized_items c (items_of s)).events (with_arranged (normalized_items c (items_of s)) (view_of s)).view (normalization c) s u all.view all.origins all.settings all.ready fits
-
-pub all_refused : (c : Normalizer) (s : Sides) (e : ShapeCause) → (e ≡ TooLong) × (s.max_len < length (expanded_list c (items_of s)).items) → reading_of (normalization c) (state_of s) ≡ Err e
-all_refused c s e over = past_limit (length (expanded_list c (items_of s)).items) (with_arranged (normalized_items c (items_of s)) (view_of s)) (view_of s) e over

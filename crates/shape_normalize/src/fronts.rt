@@ -24,7 +24,7 @@ use buffer_properties::Reach;
 use buffer_properties::categories::is_mark;
 
 /// How many marks a list begins with.
-#[tactic(auto, using(buffer_lists::specs::Lemmas::Neighbours::front_within))]
+#[tactic(auto, using(buffer_lists::proofs::Lemmas::Neighbours::front_within))]
 fn count_marks(glyphs: &[hb_glyph_info_t]) -> usize
     ensures front { result ≡ prefix_len (λ g. is_mark (item_of g)) glyphs.now }
     ensures within { result ≤ length glyphs.now }
@@ -112,7 +112,7 @@ pub(crate) fn give_glyph<N: Normalizing>(by: &N, glyph: &mut hb_glyph_info_t)
     glyph.glyph_index = by.glyph(glyph.glyph_id).unwrap_or(0);
 }
 
-#[tactic(auto, using(buffer_glyphs::specs::Lists::map_step))]
+#[tactic(auto, using(buffer_glyphs::proofs::Lists::map_step))]
 fn give_glyphs<N: Normalizing>(by: &N, glyphs: &mut [hb_glyph_info_t])
     ensures { glyphs.new ≡ map (glyph_with_own (N.normalizer by.now)) glyphs.old }
 {

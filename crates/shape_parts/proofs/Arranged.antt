@@ -10,14 +10,13 @@ use Rattle.buffer_glyphs.specs.Rewriting.{Arrangement, beside, eventless_arrange
 use Rattle.buffer_parts.specs.Counts.{AreGiving, count_after, count_after_event}
 use Rattle.buffer_parts.specs.Plainly.{ArePlainlyKept}
 use Rattle.buffer_parts.specs.Turns.{IsUnturned}
-use Rattle.buffer_parts.specs.Lemmas.Plainly.{replacement_kept}
+use Rattle.buffer_parts.specs.Lemmas.Plainly.{replacement_kept, both_give, both_plain}
 use Rattle.buffer_parts.specs.Lemmas.Turns.{unturned_in_turn}
 use Rattle.buffer_stages.specs.Lemmas.Shifts.{shift_events, shift_none}
-use Rattle.shape_parts.proofs.Events.{both_give, both_plain}
 
 -- ---- events by indices that are counted from further before
 
-shifted_plain : (n : ℕ) (es : List Event) → IsPlain es → IsPlain (map (shifted_event n) es)
+pub shifted_plain : (n : ℕ) (es : List Event) → IsPlain es → IsPlain (map (shifted_event n) es)
 shifted_plain n [] p = tt
 shifted_plain n (Merge how from to ∷ es) p = shifted_plain n es p
 shifted_plain n (MergeGrapheme from to ∷ es) p = shifted_plain n es p
@@ -103,7 +102,7 @@ beside_within k m a b p q = record {
 pub eventless_within : (xs : List Item) → IsPlainWithin (length xs) (eventless_arrangement xs)
 eventless_within xs = record { plain = tt; unturned = tt; giving = tt; counted = λ from n le. omega (arith, le) }
 
-one_for_one : (m n : ℕ) → (m == 1 && n == 1) ≡ true → m ≡ n
+pub one_for_one : (m n : ℕ) → (m == 1 && n == 1) ≡ true → m ≡ n
 one_for_one m n e = grind (arith, nat_tests, common_steps, e)
 
 -- items replaced by others

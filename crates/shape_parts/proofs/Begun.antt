@@ -63,7 +63,7 @@ characters_keep t font flags context script law v r level e =
 
 -- ---- the line
 
-line_of : (s : Stage) → StaysInLine s → KeepsFall s
+pub line_of : (s : Stage) → StaysInLine s → KeepsFall s
 line_of s p = (in_line_keeps_parts_on_line s p).fall
 
 ordered_keeps_fall : (script : Option Script) → KeepsFall (ordered_last script)

@@ -11,9 +11,10 @@ use Rattle.buffer_glyphs.specs.Levels.{InOutput, manner, grapheme_manner}
 use Rattle.buffer_glyphs.specs.Origins.{Origin, numbers, cast, origins_merged, Manner, Unites, Marks, Keeps, origins_merged_as, picked_elements, with_range_arranged}
 use Rattle.buffer_glyphs.specs.Lemmas.Origins.{numbers_merged_by}
 use Rattle.buffer_glyphs.specs.Lemmas.Replacements.{among_seen}
-use Rattle.buffer_core.specs.RangeMoves.{take_both}
 use Rattle.buffer_glyphs.specs.Order.{has_number}
 use Rattle.shape_parts.proofs.Unions.{HaveSame, IsFlagless, merges_swap}
+use Rattle.buffer_stages.specs.Lemmas.Nested.{merged_length as merged_many}
+use Rattle.buffer_lists.proofs.Carried.{take_sum as take_both}
 
 pub graphemes_flagless : (level : BufferClusterLevel) → IsFlagless (grapheme_manner level)
 graphemes_flagless MonotoneGraphemes = tt
@@ -121,16 +122,6 @@ replaced_many at taken given os some le =
     ∙ ap (λ n. n + length (drop (at + taken) os)) (length-append (take at os) (replicate given x) ∙ ap (λ n. n + length (replicate given x)) (length-take-le at os (omega (arith, le))) ∙ ap (λ n. at + n) (length-replicate given x))
     ∙ ap (λ n. at + given + n) (length-drop (at + taken) os)
 
-pub merged_many : (m : Manner) (from to : ℕ) (os : List Origin) → length (origins_merged_as m from to os) ≡ length os
-merged_many m from to os =
-    let n : Origin → ℕ = λ o. o.cluster in
-    sym (length-map (origins_merged_as m from to os) n) ∙ ap length (numbers_merged_by m from to os) ∙ by_manner m
-  where
-    by_manner : (w : Manner) → length (numbers_merged_as w from to (numbers os)) ≡ length os
-    by_manner Unites = length-map (numbers os) (merged_number (range_of from to (numbers os))) ∙ length-map os (λ (o : Origin). o.cluster)
-    by_manner Marks = length-map os (λ (o : Origin). o.cluster)
-    by_manner Keeps = length-map os (λ (o : Origin). o.cluster)
-
 -- ---- moves
 
 picked_seen : {X Y : Type 0} (v : X → Y) (all : List X) (order : List ℕ) (os : List X) → picked_elements (map v all) order (map v os) ≡ map v (picked_elements all order os)
@@ -191,9 +182,6 @@ range_over a at j front back long le =
 or_again : (s t : Bool) → (s || t) ≡ (s || (s || t))
 or_again true t = refl
 or_again false t = refl
-
-both_or : (s t u : Bool) → t ≡ u → (s || t) ≡ (s || u)
-both_or s t u e = ap (λ b. s || b) e
 
 pub have_after : (zs ms ns : List ℕ) → HaveSame ms ns → HaveSame (zs ++ ms) (zs ++ ns)
 have_after zs ms ns same n = list_any-append (λ m. m == n) zs ms ∙ ap (λ b. has_number zs n || b) (same n) ∙ sym (list_any-append (λ m. m == n) zs ns)

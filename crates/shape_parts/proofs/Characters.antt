@@ -89,7 +89,7 @@ circle_stays t font flags context = plainly_in_line (first_circle t font flags c
 
 -- ---- clusters of graphemes
 
-graphemes_steady : (level : BufferClusterLevel) (at : ℕ) (lens : List ℕ) → AreSteady (grapheme_events level at lens)
+pub graphemes_steady : (level : BufferClusterLevel) (at : ℕ) (lens : List ℕ) → AreSteady (grapheme_events level at lens)
 graphemes_steady level at [] = tt
 graphemes_steady MonotoneGraphemes at (n ∷ lens) = graphemes_steady MonotoneGraphemes (at + n) lens
 graphemes_steady MonotoneCharacters at (n ∷ lens) = graphemes_steady MonotoneCharacters (at + n) lens

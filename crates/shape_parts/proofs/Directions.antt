@@ -13,7 +13,7 @@ use Rattle.layout_match.specs.Trying.{after_outcome, outcome_past_item, trial_at
 use Rattle.layout_substitution.specs.Lookups.{backward_trials, cut_at_index}
 use Rattle.layout_substitution.specs.Substituting.{substitution_stages}
 use Rattle.layout_positioning.specs.Positioning.{positioning_stages}
-use Rattle.layout_laws.specs.Lemmas.Stages.{IsOfStages, positioned_has, substituted_has}
+use Rattle.layout_laws.proofs.Lemmas.Stages.{IsOfStages, positioned_has, substituted_has}
 use Rattle.shape_parts.specs.Lines.{KeepsDirection}
 
 -- a reading leaves a direction
@@ -56,7 +56,7 @@ whole_direction v r e = by_test (nat_le (length v.items) v.max_len) e
     by_test true d = at_read (λ q. q.view.direction ≡ v.direction) (with_zero_positions v) r d refl
     by_test false d = cc
 
-same_direction : KeepsDirection as_it_is
+pub same_direction : KeepsDirection as_it_is
 same_direction v r e = at_read (λ q. q.view.direction ≡ v.direction) (with_events [] v) r e refl
 
 pub stages_direction : (s t : Stage) → KeepsDirection s → KeepsDirection t → KeepsDirection (λ v. and_then (s v) t)

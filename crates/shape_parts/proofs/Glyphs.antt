@@ -8,7 +8,7 @@ use Rattle.buffer_glyphs.specs.Events.{Break, Delete, Spread}
 use Rattle.buffer_glyphs.specs.Items.{Item, item_masked}
 use Rattle.buffer_lists.specs.Events.{deletions, deletions_from}
 use Rattle.buffer_lists.specs.Facts.{items_kept}
-use Rattle.buffer_lists.specs.Lemmas.DeletedEvents.{deletions_are_plain}
+use Rattle.buffer_lists.proofs.Lemmas.DeletedEvents.{deletions_are_plain}
 use Rattle.buffer_parts.specs.Counts.{AreGiving, count_after, count_after_event}
 use Rattle.buffer_parts.specs.Plainly.{ArePlainlyKept, AreSteady}
 use Rattle.buffer_parts.specs.Turns.{IsUnturned}
@@ -73,11 +73,11 @@ deletions_give : (q : Item → Bool) (at : ℕ) (xs : List Item) → AreGiving (
 deletions_give q at [] = tt
 deletions_give q at (x ∷ xs) = elim (q x) as (λ b. AreGiving (if b then Delete at ∷ deletions_from q at xs else deletions_from q (at + 1) xs)) [ true ↦ deletions_give q at xs | false ↦ deletions_give q (at + 1) xs ]
 
-one_gone : (at n : ℕ) → at < n → count_after_event n (Delete at) ≡ n - 1
+pub one_gone : (at n : ℕ) → at < n → count_after_event n (Delete at) ≡ n - 1
 one_gone at n lt = grind (arith, nat_tests, common_steps, lt)
 
 -- so many items were passed, and the others are left
-deletions_count : (q : Item → Bool) (at : ℕ) (xs : List Item) (n : ℕ) → n ≡ at + length xs → count_after (deletions_from q at xs) n ≡ at + length (items_kept q xs)
+pub deletions_count : (q : Item → Bool) (at : ℕ) (xs : List Item) (n : ℕ) → n ≡ at + length xs → count_after (deletions_from q at xs) n ≡ at + length (items_kept q xs)
 deletions_count q at [] n e = e
 deletions_count q at (x ∷ xs) n e = by_test (q x) (deletions_count q at xs (n - 1) (omega (arith, e))) (deletions_count q (at + 1) xs n (omega (arith, e)))
   where

@@ -11,7 +11,7 @@ use Rattle.buffer_glyphs.specs.Events.{Circle, origins_after}
 use Rattle.buffer_glyphs.specs.Items.{Item, clusters, item_masked, item_of, strip}
 use Rattle.buffer_glyphs.specs.Order.{BringsNone, IsRising}
 use Rattle.buffer_glyphs.specs.Origins.{Asks, Origin, numbers, origin_of, origins_circled, without_marks}
-use Rattle.buffer_glyphs.specs.Lemmas.EventParts.{origins_keep_numbers}
+use Rattle.buffer_glyphs.specs.Lemmas.EventParts.{origins_keep_numbers, numbers_reset as numbers_unmarked}
 use Rattle.buffer_glyphs.specs.Lemmas.Numbers.{Has}
 use Rattle.buffer_glyphs.specs.Lemmas.Origins.{numbers_origins, origins_after_both}
 use Rattle.buffer_unicode_tables.specs.Lawful.{AsciiHasNoMarks, IsLawful}
@@ -39,10 +39,11 @@ use Rattle.shape_pipeline.specs.Shaped.{text_reading}
 use Rattle.shape_pipeline.specs.Shaping.{Shaping}
 use Rattle.shape_parts.specs.Graphemes.{HasKnownGraphemes}
 use Rattle.shape_parts.specs.GraphemeLaws.{PushedClustersAreGraphemes, ShapedClustersAreGraphemes, first_numbers, grapheme_numbers}
-use Rattle.shape_parts.proofs.Characters.{circle_view}
+use Rattle.shape_parts.proofs.Characters.{circle_view, prepared_many}
 use Rattle.shape_parts.proofs.Graphemes.{graphemes_are_known}
 use Rattle.shape_parts.proofs.GraphemeNumbers.{circle_brings_none, groups_are_all, merges_leave_first, singles_are_first, total}
 use Rattle.shape_parts.proofs.Texts.{left_by, pushed_clusters, pushed_rise, result_clusters}
+use Rattle.buffer_core.proofs.Apart.{items_from as pushed_items}
 
 -- ---- readings that leave numbers of a set
 
@@ -72,16 +73,16 @@ always_first s asks os f t v r e next = by_second (t (f v).view) refl e
 
 -- ---- items with their properties
 
-front_mapped : {X : Type 0} (p : X → X → Bool) (g : X → X) → ((a b : X) → p (g a) (g b) ≡ p a b) → (x : X) (gs : List (List X)) → in_front p (g x) (map (map g) gs) ≡ map (map g) (in_front p x gs)
+pub front_mapped : {X : Type 0} (p : X → X → Bool) (g : X → X) → ((a b : X) → p (g a) (g b) ≡ p a b) → (x : X) (gs : List (List X)) → in_front p (g x) (map (map g) gs) ≡ map (map g) (in_front p x gs)
 front_mapped p g same x [] = refl
 front_mapped p g same x ([] ∷ gs) = refl
 front_mapped p g same x ((y ∷ ys) ∷ gs) = rw (same x y) (elim (p x y) as (λ b. (if b then (g x ∷ g y ∷ map g ys) ∷ map (map g) gs else (g x ∷ []) ∷ (g y ∷ map g ys) ∷ map (map g) gs) ≡ map (map g) (if b then (x ∷ y ∷ ys) ∷ gs else (x ∷ []) ∷ (y ∷ ys) ∷ gs)) [ true ↦ refl | false ↦ refl ])
 
-groups_mapped : {X : Type 0} (p : X → X → Bool) (g : X → X) → ((a b : X) → p (g a) (g b) ≡ p a b) → (xs : List X) → groups p (map g xs) ≡ map (map g) (groups p xs)
+pub groups_mapped : {X : Type 0} (p : X → X → Bool) (g : X → X) → ((a b : X) → p (g a) (g b) ≡ p a b) → (xs : List X) → groups p (map g xs) ≡ map (map g) (groups p xs)
 groups_mapped p g same [] = refl
 groups_mapped p g same (x ∷ xs) = ap (in_front p (g x)) (groups_mapped p g same xs) ∙ front_mapped p g same x (groups p xs)
 
-lengths_mapped : {X : Type 0} (g : X → X) (gs : List (List X)) → map (λ ys. length ys) (map (map g) gs) ≡ map (λ ys. length ys) gs
+pub lengths_mapped : {X : Type 0} (g : X → X) (gs : List (List X)) → map (λ ys. length ys) (map (map g) gs) ≡ map (λ ys. length ys) gs
 lengths_mapped g [] = refl
 lengths_mapped g (ys ∷ gs) = rw (length-map ys g, lengths_mapped g gs) refl
 
@@ -96,10 +97,6 @@ masked_graphemes t m xs =
     ap grapheme_lengths (masked_prepared t None m xs)
     ∙ ap (map (λ zs. length zs)) (groups_mapped (λ a b. continues_item b) (item_masked m) (λ a b. refl) ys)
     ∙ lengths_mapped (item_masked m) (groups (λ a b. continues_item b) ys)
-
-prepared_many : (t : Tables) (before : Option Before) (xs : List Item) → length (items_prepared t before xs) ≡ length xs
-prepared_many t before [] = refl
-prepared_many t before (x ∷ xs) = ap suc (prepared_many t (Some (next_before t before x.number)) xs)
 
 -- ---- a circle before the first character
 
@@ -177,10 +174,6 @@ prepared t font flags context script v s asks os r law many forming e =
 
 -- ---- the first pipeline stage
 
-numbers_unmarked : (os : List Origin) → numbers (without_marks os) ≡ numbers os
-numbers_unmarked [] = refl
-numbers_unmarked (o ∷ os) = ap (λ ns. o.cluster ∷ ns) (numbers_unmarked os)
-
 begun : (p : Shaping) (v : View) (asks : Asks) (os : List Origin) (r : Read) → IsLawful p.tables → IsRising (numbers os) → length os ≡ length v.items → text_begun p v ≡ Ok r → LeavesFrom (grapheme_numbers p.tables v.items (numbers os)) asks os r
 unfolding text_begun
 begun p v asks os r law rise many e =
@@ -242,10 +235,6 @@ shaped_clusters_are_graphemes p text result law level rise f =
     result_clusters result (state_after q.read (state_of text)) q.left ∙ ap (λ l. numbers (origins_after (state_of text).asks l (q.read.events l) (origins_of text))) level in
     subst (BringsNone (grapheme_numbers p.tables (items_of text) (clusters (all_glyphs text)))) (sym there)
     (subst (λ ns. BringsNone (grapheme_numbers p.tables (items_of text) ns) (numbers (origins_after (state_of text).asks Graphemes (q.read.events Graphemes) (origins_of text)))) seen leaves)
-
-pushed_items : (at : ℕ) (cs : List ℕ) → strip (added_text_from at cs) ≡ map (λ c. item_of (added_glyph c 0)) cs
-pushed_items at [] = refl
-pushed_items at (c ∷ cs) = ap (λ xs. item_of (added_glyph c 0) ∷ xs) (pushed_items (at + len_utf8 c) cs)
 
 pub pushed_clusters_are_graphemes : PushedClustersAreGraphemes
 pushed_clusters_are_graphemes p bytes text result law level pushed f =

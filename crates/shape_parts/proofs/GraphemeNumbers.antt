@@ -5,7 +5,7 @@ use Rattle.buffer_glyphs.specs.declared.level.BufferClusterLevel.TheVariants.{Gr
 use Rattle.buffer_glyphs.specs.Events.{origins_after}
 use Rattle.buffer_glyphs.specs.Levels.{Unites}
 use Rattle.buffer_glyphs.specs.Merges.{least_number, merged_number}
-use Rattle.buffer_glyphs.specs.Merging.{order_kept_as}
+use Rattle.buffer_glyphs.proofs.Merging.{order_kept_as}
 use Rattle.buffer_glyphs.specs.Order.{AllFrom, BringsNone, IsRising, has_number}
 use Rattle.buffer_glyphs.specs.Origins.{Asks, Origin, numbers, origins_merged_as}
 use Rattle.buffer_glyphs.specs.Parts.{range_of}

@@ -27,7 +27,7 @@ use Rattle.buffer_glyphs.specs.Levels.{IsMonotone}
 use Rattle.buffer_glyphs.specs.Order.{IsOrdered, falls_after}
 use Rattle.buffer_glyphs.specs.Origins.{Asks, Origin, numbers}
 use Rattle.buffer_lists.specs.Events.{group_events, indices_reversed}
-use Rattle.buffer_lists.specs.Lemmas.ReversedEvents.{length_reversed_indices}
+use Rattle.buffer_lists.proofs.Lemmas.ReversedEvents.{length_reversed_indices, events_plain as moves_plain, length_reversed_indices as reversed_many}
 use Rattle.buffer_lists.specs.Turning.{groups, groups_reversed_list, in_front}
 use Rattle.buffer_parts.specs.Counts.{AreGiving, count_after, count_after_event}
 use Rattle.buffer_parts.specs.Groups.{AreSingle, arranges_from, merges_from}
@@ -38,7 +38,7 @@ use Rattle.buffer_parts.specs.Lemmas.Counts.{giving_is_giving}
 use Rattle.buffer_parts.specs.Lemmas.Groups.{merged_groups_may_turn, one_groups_may_turn, single_groups_are_one}
 use Rattle.buffer_parts.specs.Lemmas.Keeping.{plain_is_kept}
 use Rattle.buffer_parts.specs.Lemmas.Orderly.{plain_is_orderly}
-use Rattle.buffer_parts.specs.Lemmas.Plainly.{steady_count, steady_giving, steady_kept, steady_plain, steady_unturned}
+use Rattle.buffer_parts.specs.Lemmas.Plainly.{steady_count, steady_giving, steady_kept, steady_plain, steady_unturned, both_give, both_plain}
 use Rattle.buffer_parts.specs.Lemmas.Turns.{turns_add_up, unturned_keeps_side}
 use Rattle.buffer_core.specs.Graphemes.{continues as continues_item}
 use Rattle.buffer_core.specs.Readings.{View, Read, Reading, always, with_events}
@@ -59,7 +59,7 @@ use Rattle.shape_parts.specs.Graphemes.{HasKnownGraphemes}
 use Rattle.shape_parts.specs.Premises.{CountsItems}
 use Rattle.shape_parts.specs.StageLaws.{GraphemesAreKnown, GraphemesKeepFall, GraphemesKeepParts}
 use Rattle.shape_parts.proofs.Characters.{circle_view, clusters_steady}
-use Rattle.shape_parts.proofs.Events.{both_give, both_plain}
+use Rattle.layout_match.proofs.Lemmas.Idle.{or_none as two_false}
 
 -- ---- the events of a turn
 
@@ -78,10 +78,6 @@ groups_unturned merge at [] = tt
 groups_unturned true at (n ∷ lens) = groups_unturned true (at + n) lens
 groups_unturned false at (n ∷ lens) = groups_unturned false (at + n) lens
 
-moves_plain : (at : ℕ) (lens : List ℕ) → IsPlain (group_events true at lens ++ Reverse ∷ [])
-moves_plain at [] = tt
-moves_plain at (n ∷ lens) = moves_plain (at + n) lens
-
 are_arranges : (at : ℕ) (lens : List ℕ) → group_events false at lens ≡ arranges_from indices_reversed at lens
 are_arranges at [] = refl
 are_arranges at (n ∷ lens) = ap (λ es. Arrange at (indices_reversed n) ∷ es) (are_arranges (at + n) lens)
@@ -90,9 +86,6 @@ are_arranges at (n ∷ lens) = ap (λ es. Arrange at (indices_reversed n) ∷ es
 are_merges : (asks : Asks) (at : ℕ) (lens : List ℕ) (es : List Event) (os : List Origin) → IsOrderly asks MonotoneGraphemes (merges_from at lens ++ es) os → IsOrderly asks MonotoneGraphemes (grapheme_events MonotoneGraphemes at lens ++ es) os
 are_merges asks at [] es os h = h
 are_merges asks at (n ∷ lens) es os h = (tt, are_merges asks (at + n) lens es (origins_after_event asks MonotoneGraphemes os (MergeGrapheme at (at + n))) h.1)
-
-reversed_many : (n : ℕ) → length (indices_reversed n) ≡ n
-reversed_many n = length_reversed_indices n
 
 -- ---- graphemes turned
 
@@ -282,9 +275,6 @@ is_below u e = grind (arith, nat_tests, e)
 four_false : (a b c d : Bool) → a ≡ false → b ≡ false → c ≡ false → d ≡ false → (a || b || c || d) ≡ false
 four_false a b c d p q r s = rw (p, q, r, s) refl
 
-two_false : (a b : Bool) → a ≡ false → b ≡ false → (a || b) ≡ false
-two_false a b p q = rw (p, q) refl
-
 last_false : (a b : Bool) → b ≡ false → (a && b) ≡ false
 last_false true b e = e
 last_false false b e = refl
@@ -320,7 +310,7 @@ not_continued : (t : Tables) (before : Option Before) (u : ℕ) → AsciiHasNoMa
 not_continued t None u law b e = no_extender u law e
 not_continued t (Some before) u law b e = two_false (is_extender u) (is_joined t before u) (no_extender u law e) (not_joined t before u b e)
 
-no_middle_bit : (n a h j k : ℕ) → n < 32 → a ≤ 1 → h ≤ 1 → bit_and (n + (32 * a + (64 * h + (256 * j + 512 * k)))) 128 ≡ 0
+pub no_middle_bit : (n a h j k : ℕ) → n < 32 → a ≤ 1 → h ≤ 1 → bit_and (n + (32 * a + (64 * h + (256 * j + 512 * k)))) 128 ≡ 0
 no_middle_bit n a h j k p q r =
     let upper = 2 * j + 4 * k in
     let lower = n + (32 * a + 64 * h) in
@@ -333,7 +323,7 @@ no_middle_bit n a h j k p q r =
     let even : upper % 2 ≡ 0 = omega arith in
     rw cut (rw blocks (omega (arith, one, none, even)))
 
-alone_word : (u : ℕ) → bit_and (properties_of u) 0x80 ≡ 0
+pub alone_word : (u : ℕ) → bit_and (properties_of u) 0x80 ≡ 0
 alone_word u =
     ap (λ w. bit_and w 0x80) (word_of u)
     ∙ no_middle_bit (category_number (general_category u)) (bit_if (is_default_ignorable_character u) 1) (bit_if (is_hidden_character u) 1) (bit_if (u == 0x200D) 1) (bit_if (u == 0x200C) 1) (category_fits (general_category u)) (at_most_one (is_default_ignorable_character u)) (at_most_one (is_hidden_character u))

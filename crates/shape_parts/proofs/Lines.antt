@@ -16,7 +16,7 @@ use Rattle.buffer_parts.specs.Lemmas.Turns.{turns_add_up, unturned_keeps_side}
 use Rattle.buffer_core.specs.Readings.{BufferState, Read, Reading, Stage, View, always, and_then, as_it_is, state_after, with_events}
 use Rattle.buffer_parts.specs.Stages.{StaysUnturned}
 use Rattle.buffer_parts.specs.Lemmas.Stages.{at_read, both_read, same_unturned, stages_stay_unturned}
-use Rattle.layout_laws.specs.Lemmas.Unturned.{positioning_stays_unturned, substitution_stays_unturned}
+use Rattle.layout_laws.proofs.Lemmas.Unturned.{positioning_stays_unturned, substitution_stays_unturned}
 use Rattle.layout_offsets.specs.Finishing.{links_followed}
 use Rattle.layout_substitution.specs.Substituting.{substitution_stages}
 use Rattle.layout_positioning.specs.Positioning.{positioning_stages}
@@ -38,7 +38,7 @@ use Rattle.shape_pipeline.specs.Shaped.{text_reading}
 use Rattle.shape_pipeline.specs.Shaping.{Shaping, pauses_of, postprocessing_stage, preprocessing_stage, shaper_masks_set}
 use Rattle.shape_parts.specs.Premises.{RulesKeepDirection, ShapingKeepsParts}
 use Rattle.shape_parts.specs.Laws.{ClustersStandInLine}
-use Rattle.shape_parts.proofs.Begun.{begun_texts_keep_parts}
+use Rattle.shape_parts.proofs.Begun.{begun_texts_keep_parts, line_of}
 use Rattle.shape_parts.proofs.Chains.{IsOfChains, chain_has, wanted_has}
 use Rattle.shape_parts.proofs.Directions.{positioning_direction, substitution_direction}
 use Rattle.shape_parts.proofs.Parts.{positioned_stays, texts_have_parts}
@@ -48,9 +48,6 @@ use Rattle.shape_parts.proofs.Phases.{AreShaping, before_have, positions_adjuste
 
 fall_chain : IsOfChains KeepsFall
 fall_chain = record { same = same_on_line.fall; steps = then_keeps_fall }
-
-line_of : (s : Stage) → StaysInLine s → KeepsFall s
-line_of s k = (in_line_keeps_parts_on_line s k).fall
 
 unturned_fall : (s : Stage) → StaysUnturned s → KeepsDirection s → KeepsFall s
 unturned_fall s u d v r level falls mono e =
@@ -161,7 +158,7 @@ none_in_order : (falls : Bool) → IsInOrder falls []
 none_in_order false = tt
 none_in_order true = tt
 
-no_origins : (os : List Origin) → length os ≡ 0 → os ≡ []
+pub no_origins : (os : List Origin) → length os ≡ 0 → os ≡ []
 no_origins os e = nil_from_length os e
 
 pub clusters_stand_in_line : ClustersStandInLine

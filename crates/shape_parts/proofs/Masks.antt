@@ -30,7 +30,7 @@ length_take zero xs = omega arith
 length_take (suc n) [] = omega arith
 length_take (suc n) (x ∷ xs) = let rest = length_take n xs in omega (arith, rest)
 
-within_many : (mask from to : ℕ) (xs : List Item) → from ≤ to → length (with_features_within mask from to xs) ≡ length xs
+pub within_many : (mask from to : ℕ) (xs : List Item) → from ≤ to → length (with_features_within mask from to xs) ≡ length xs
 within_many mask from to xs le =
     let front = length_take from xs in
     let middle : length (map (with_features mask) (slice_range xs from to)) ≡ min (to - from) (length xs - from) = length-map (slice_range xs from to) (with_features mask) ∙ length_take (to - from) (drop from xs) ∙ ap (min (to - from)) (length-drop from xs) in
@@ -98,7 +98,7 @@ range_many map f clusters xs =
     elim (is_global f) as (λ b. length (if b then xs else items_set (shifted_value f map) (bits_of f map) f.start f.end clusters xs) ≡ length xs)
     [ true ↦ refl | false ↦ set_many (shifted_value f map) (bits_of f map) f.start f.end clusters xs ]
 
-ranges_many : (map : OtMapValue) (fs : List Feature) (clusters : List ℕ) (xs : List Item) → length (with_all_ranges map fs clusters xs) ≡ length xs
+pub ranges_many : (map : OtMapValue) (fs : List Feature) (clusters : List ℕ) (xs : List Item) → length (with_all_ranges map fs clusters xs) ≡ length xs
 ranges_many map [] clusters xs = refl
 ranges_many map (f ∷ fs) clusters xs = ranges_many map fs clusters (with_range map f clusters xs) ∙ range_many map f clusters xs
 

@@ -10,7 +10,7 @@ use Rattle.buffer_glyphs.specs.declared.cause.ShapeCause.TheVariants.{TooLong}
 use Rattle.buffer_glyphs.specs.Events.{StaysInSpans}
 use Rattle.buffer_glyphs.specs.Items.{Item}
 use Rattle.buffer_glyphs.specs.Rewriting.{Arrangement, and_arranged, eventless_arrangement, replacement}
-use Rattle.buffer_lists.specs.Lemmas.OrderSpans.{order_stays}
+use Rattle.buffer_lists.proofs.Lemmas.OrderSpans.{order_stays}
 use Rattle.buffer_parts.specs.Keeping.{AreKept}
 use Rattle.buffer_parts.specs.Turns.{IsUnturned}
 use Rattle.buffer_parts.specs.Lemmas.Keeping.{kept_in_turn, plain_is_kept}
@@ -37,14 +37,14 @@ use Rattle.shape_parts.proofs.Composed.{ArrangesInLine, composed_stays, eventles
 
 -- ---- an expansion has a character
 
-some_pieces : (b : ℕ) (us : List ℕ) → 0 < length us → 0 < length (with_second_piece b us)
+pub some_pieces : (b : ℕ) (us : List ℕ) → 0 < length us → 0 < length (with_second_piece b us)
 some_pieces b us some = by_test (b == 0)
   where
     by_test : (t : Bool) → 0 < length (if t then us else us ++ b ∷ [])
     by_test true = some
     by_test false = let e = length-append us (b ∷ []) in omega (arith, e)
 
-supported_some : (has : ℕ → Bool) (expand : ℕ → Option (List ℕ)) (o : Option (ℕ × ℕ)) (us : List ℕ) → ((a : ℕ) (vs : List ℕ) → expand a ≡ Some vs → 0 < length vs) → by_supported has expand o ≡ Some us → 0 < length us
+pub supported_some : (has : ℕ → Bool) (expand : ℕ → Option (List ℕ)) (o : Option (ℕ × ℕ)) (us : List ℕ) → ((a : ℕ) (vs : List ℕ) → expand a ≡ Some vs → 0 < length vs) → by_supported has expand o ≡ Some us → 0 < length us
 supported_some has expand None us h e = absurd (let none : None ≡ Some us = e in cc)
 supported_some has expand (Some (a, b)) us h e =
     elim (cases_Bool (b == 0 || has b)) [
@@ -54,7 +54,7 @@ supported_some has expand (Some (a, b)) us h e =
       | inr lacks ↦ absurd (let none : None ≡ Some us = sym (cond-false _ _ _ lacks) ∙ e in cc)
     ]
 
-expansion_some : (reach : Reach) (has : ℕ → Bool) (splits : Splits) (depth u : ℕ) (us : List ℕ) → supported_expansion reach has splits depth u ≡ Some us → 0 < length us
+pub expansion_some : (reach : Reach) (has : ℕ → Bool) (splits : Splits) (depth u : ℕ) (us : List ℕ) → supported_expansion reach has splits depth u ≡ Some us → 0 < length us
 unfolding supported_expansion
 expansion_some reach has splits zero u us e = subst (λ (zs : List ℕ). 0 < length zs) (alone_is has u us e) (omega arith)
 expansion_some reach has splits (suc depth) u us e =
@@ -63,11 +63,11 @@ expansion_some reach has splits (suc depth) u us e =
       | inr parts ↦ supported_some has (supported_expansion reach has splits depth) (splits u) us (λ a vs k. expansion_some reach has splits depth a vs k) parts
     ]
 
-pieces_some : (reach : Reach) (has : ℕ → Bool) (splits : Splits) (u : ℕ) (us : List ℕ) → in_pieces reach has splits u ≡ Some us → 0 < length us
+pub pieces_some : (reach : Reach) (has : ℕ → Bool) (splits : Splits) (u : ℕ) (us : List ℕ) → in_pieces reach has splits u ≡ Some us → 0 < length us
 unfolding in_pieces
 pieces_some reach has splits u us e = supported_some has (supported_expansion reach has splits 8) (splits u) us (λ a vs k. expansion_some reach has splits 8 a vs k) e
 
-found_some : (reach : Reach) (has : ℕ → Bool) (splits : Splits) (u : ℕ) (us : List ℕ) → expansion reach has splits u ≡ Some us → 0 < length us
+pub found_some : (reach : Reach) (has : ℕ → Bool) (splits : Splits) (u : ℕ) (us : List ℕ) → expansion reach has splits u ≡ Some us → 0 < length us
 found_some Greatest has splits u us e = pieces_some Greatest has splits u us e
 found_some Least has splits u us e = by_test (has u) e
   where
@@ -75,7 +75,7 @@ found_some Least has splits u us e = by_test (has u) e
     by_test true f = absurd (let none : None ≡ Some us = f in cc)
     by_test false f = pieces_some Least has splits u us f
 
-item_some : (c : Normalizer) (reach : Reach) (x : Item) → 0 < length (expanded_item c reach x)
+pub item_some : (c : Normalizer) (reach : Reach) (x : Item) → 0 < length (expanded_item c reach x)
 unfolding expanded_item
 item_some c reach x = by_found (expansion reach (has_character c) c.splits x.number) refl
   where
@@ -212,12 +212,12 @@ arranged_in_turn n a next p q = record {
   unturned = unturned_in_turn a.events (next a.items).events p.unturned q.unturned;
 }
 
-joiners_many : (before : Item) (xs : List Item) → length (with_joiners_shown before xs) ≡ length xs
+pub joiners_many : (before : Item) (xs : List Item) → length (with_joiners_shown before xs) ≡ length xs
 joiners_many before [] = refl
 joiners_many before (x ∷ []) = refl
 joiners_many before (x ∷ y ∷ ys) = ap suc (joiners_many x (y ∷ ys))
 
-shown_many : (xs : List Item) → length (joiners_shown xs) ≡ length xs
+pub shown_many : (xs : List Item) → length (joiners_shown xs) ≡ length xs
 shown_many [] = refl
 shown_many (x ∷ xs) = ap suc (joiners_many x xs)
 

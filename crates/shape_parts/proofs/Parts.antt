@@ -17,7 +17,7 @@ use Rattle.buffer_parts.specs.Lemmas.Keeping.{plain_is_kept}
 use Rattle.buffer_core.specs.Readings.{BufferState, Read, Reading, Stage, View, always, state_after, with_events}
 use Rattle.buffer_parts.specs.Stages.{KeepsParts}
 use Rattle.buffer_parts.specs.Lemmas.Stages.{at_read, nothing_keeps, runs_have_parts, same_keeps, stages_keep_parts}
-use Rattle.layout_laws.specs.Lemmas.Kept.{positioning_keeps_parts, substitution_keeps_parts}
+use Rattle.layout_laws.proofs.Lemmas.Kept.{positioning_keeps_parts, substitution_keeps_parts}
 use Rattle.layout_offsets.specs.Finishing.{links_followed}
 use Rattle.shape_glyphs.specs.Flags.{with_flags_spread}
 use Rattle.shape_glyphs.specs.Ignorables.{ignorables_hidden}

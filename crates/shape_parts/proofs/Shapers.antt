@@ -65,12 +65,9 @@ use Rattle.shape_parts.specs.Lines.{KeepsDirection}
 use Rattle.shape_parts.proofs.StageLines.{always_direction, same_in_line}
 use Rattle.shape_parts.specs.Premises.{RulesKeepDirection}
 use Rattle.shape_parts.specs.TextLaws.{ShapersKeepDirection}
-use Rattle.shape_parts.proofs.Directions.{stages_direction}
+use Rattle.shape_parts.proofs.Directions.{stages_direction, same_direction as same}
 
 -- ---- forms of stages
-
-same : KeepsDirection as_it_is
-same = same_in_line.direction
 
 mapped : (k : Item → Item) → KeepsDirection (always (with_items_mapped k))
 mapped k = always_direction (with_items_mapped k) (λ v. refl)

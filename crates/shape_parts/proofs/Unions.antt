@@ -10,6 +10,8 @@ use Rattle.buffer_glyphs.specs.Origins.{Origin, numbers, cast, origins_merged, M
 use Rattle.buffer_glyphs.specs.Lemmas.Numbers.{Has, has_map, map_has}
 use Rattle.buffer_glyphs.specs.Lemmas.Merges.{least_number_is, merge_unites}
 use Rattle.buffer_glyphs.specs.Lemmas.Origins.{number_cast, numbers_merged}
+use Rattle.buffer_parts.specs.Lemmas.Groups.{range_map}
+use Rattle.buffer_stages.specs.Lemmas.Nested.{map_alike}
 
 -- ---- numbers
 
@@ -106,10 +108,6 @@ map_both : (f g h : Origin → Origin) (os : List Origin) → ((o : Origin) → 
 map_both f g h [] same = refl
 map_both f g h (o ∷ os) same = rw (same o, map_both f g h os same) refl
 
-pub map_alike : {X Y : Type 0} (f g : X → Y) (xs : List X) → ((x : X) → f x ≡ g x) → map f xs ≡ map g xs
-map_alike f g [] same = refl
-map_alike f g (x ∷ xs) same = rw (same x, map_alike f g xs same) refl
-
 pub unions_alike : (ms ns : List ℕ) (os : List Origin) → HaveSame ms ns → origins_merged ms os ≡ origins_merged ns os
 unions_alike ms ns os same =
     map_alike (λ (o : Origin). cast (merged_number ms o.cluster) 0 o) (λ (o : Origin). cast (merged_number ns o.cluster) 0 o) os (λ o. ap (λ n. cast n 0 o) (united_alike ms ns o.cluster same))
@@ -136,9 +134,6 @@ abbrev pub IsFlagless : Manner → Type 0
 IsFlagless Unites = Unit {0}
 IsFlagless Marks = ⊥
 IsFlagless Keeps = Unit {0}
-
-pub range_map : (f : ℕ → ℕ) (from to : ℕ) (ns : List ℕ) → range_of from to (map f ns) ≡ map f (range_of from to ns)
-range_map f from to ns = ap (take (to - from)) (drop-map f from ns) ∙ take-map f (to - from) (drop from ns)
 
 union_after : (a b i j : ℕ) (os : List Origin)
     → origins_merged_as Unites a b (origins_merged_as Unites i j os) ≡ origins_merged (map (merged_number (range_of i j (numbers os))) (range_of a b (numbers os))) (origins_merged (range_of i j (numbers os)) os)

@@ -22,7 +22,6 @@ use Rattle.buffer_glyphs.specs.Events.{Event, MergeGrapheme, Move, Replace, orig
 use Rattle.buffer_glyphs.specs.Lemmas.Origins.{origins_after_both}
 use Rattle.buffer_parts.specs.Lemmas.Counts.{counts_follow}
 use Rattle.buffer_parts.specs.Lemmas.Plainly.{replacement_kept}
-use Rattle.buffer_core.specs.RangeMoves.{take_both}
 use Rattle.buffer_core.specs.Readings.{Read, Reading, then_read, then_reading}
 use Rattle.buffer_core.specs.Sides.{zero_positions}
 use Rattle.buffer_stages.specs.Moves.{order_of_move}
@@ -42,9 +41,14 @@ use Rattle.script_hangul.specs.Hangul.{character_at, count_apart, events_after, 
 use Rattle.script_hangul.proofs.Fits.{Within, character_within}
 use Rattle.shape_parts.specs.WrittenMerges.{SyllablesMergeWhereWritten, syllable_merge, written_merge, written_merge_by, written_steps, written_syllables}
 use Rattle.shape_parts.proofs.Unions.{HaveSame, IsFlagless, same_as, unions_alike}
-use Rattle.shape_parts.proofs.Carried.{Passes, begins_at, carried_passes, graphemes_flagless, have_after, have_twice, later_passes, merged_many, moving_passes, range_over, replaced_numbers, replacing_carries, whole_numbers}
+use Rattle.shape_parts.proofs.Carried.{Passes, begins_at, carried_passes, graphemes_flagless, have_after, have_twice, later_passes, moving_passes, range_over, replaced_numbers, replacing_carries, whole_numbers}
 use Rattle.shape_parts.proofs.WrittenEvents.{AreWritten, both_written, clusters_by_requests, merge_alone, merged_unasked, merges_alone, merges_alone_written, merges_written, origins_by_requests, unasked}
 use Rattle.shape_parts.proofs.WrittenWalks.{Anything, IsEvenLevel, IsOrderedFrom, IsWalk, cluster_walk, exact_walk, ordered_walk}
+use Rattle.layout_face.proofs.Fitting.{none as and_none}
+use Rattle.layout_match.proofs.Lemmas.Idle.{or_none as neither}
+use Rattle.script_dispatch.specs.Lemmas.Keeping.Hangul.{letters_some, letters_long}
+use Rattle.buffer_lists.proofs.Carried.{take_sum as take_both}
+use Rattle.buffer_stages.specs.Lemmas.Nested.{merged_length as merged_many}
 
 -- ---- characters within syllables
 
@@ -53,21 +57,14 @@ abbrev IsInside : Option ℕ → Type 0
 IsInside None = ⊥
 IsInside (Some u) = (is_leading u ≡ false) × (is_syllable u ≡ false)
 
-in_range : (u a b : ℕ) → is_in_range u (a, b) ≡ true → (a ≤ u) × (u ≤ b)
+pub in_range : (u a b : ℕ) → is_in_range u (a, b) ≡ true → (a ≤ u) × (u ≤ b)
 in_range u a b e = let both = and_parts (nat_le a u) (nat_le u b) e in (grind (arith, nat_tests, both.0), grind (arith, nat_tests, both.1))
-
-and_none : (s : Bool) → (s && false) ≡ false
-and_none true = refl
-and_none false = refl
 
 under : (u a b : ℕ) → u < a → is_in_range u (a, b) ≡ false
 under u a b lt = let no : nat_le a u ≡ false = grind (arith, nat_tests, lt) in ap (λ t. t && nat_le u b) no
 
 over : (u a b : ℕ) → b < u → is_in_range u (a, b) ≡ false
 over u a b lt = let no : nat_le u b ≡ false = grind (arith, nat_tests, lt) in ap (λ t. nat_le a u && t) no ∙ and_none (nat_le a u)
-
-neither : (s t : Bool) → s ≡ false → t ≡ false → (s || t) ≡ false
-neither s t e f = ap (λ b. b || t) e ∙ f
 
 one_of : (s t : Bool) → (s || t) ≡ true → (s ≡ true) ⊎ (t ≡ true)
 one_of true t e = inl refl
@@ -350,14 +347,6 @@ merge_copied Unites at k j os p some fits =
     ∙ unions_alike range (range_of at (at + (k + j)) (numbers (elements_replaced at 1 k os))) (elements_replaced at 1 k os) (copied_ranges at k j os some fits)
 merge_copied Marks at k j os p some fits = absurd p
 merge_copied Keeps at k j os p some fits = refl
-
-letters_some : (letters : Letters) → 0 < length (numbers_of letters)
-letters_some (Two l v) = omega arith
-letters_some (Three l v t) = omega arith
-
-letters_long : (n : ℕ) (xs : List Item) → length (letters_from n xs) ≡ length xs
-letters_long n [] = refl
-letters_long n (x ∷ xs) = ap suc (letters_long (n + 1) xs)
 
 first_is : (font : FaceParts) (at n : ℕ) (x : Item) (xs : List Item) → jamo_rule font (x ∷ xs) ≡ n → merges_alone (jamo_rule font) at (x ∷ xs) ≡ merge_alone at n ++ merges_alone (jamo_rule font) (at + 1) xs
 first_is font at n x xs e = ap (λ k. merge_alone at k ++ merges_alone (jamo_rule font) (at + 1) xs) e

@@ -34,8 +34,10 @@ use Rattle.script_thai.specs.ThaiPrivate.{with_private}
 use Rattle.script_thai.specs.ThaiVowel.{count_above, events_of_vowel, is_mark_above, is_sara_am, marks_above, nikhahit, sara_aa, split_events, text_with_splits, thai_or_lao, vowel_rule, vowels_decomposed, with_vowel}
 use Rattle.shape_parts.specs.WrittenMerges.{VowelsMergeWhereWritten, written_characters, written_vowel}
 use Rattle.shape_parts.proofs.Unions.{HaveSame, IsFlagless, merges_alike, same_as, unions_alike}
-use Rattle.shape_parts.proofs.Carried.{Passes, begins_at, carried_passes, doubling_carries, graphemes_flagless, have_after, have_twice, merged_many, moving_passes, output_flagless, range_over, replaced_many, replaced_numbers, whole_numbers}
+use Rattle.shape_parts.proofs.Carried.{Passes, begins_at, carried_passes, doubling_carries, graphemes_flagless, have_after, have_twice, moving_passes, output_flagless, range_over, replaced_many, replaced_numbers, whole_numbers}
 use Rattle.shape_parts.proofs.WrittenEvents.{AreWritten, both_written, clusters_by_requests, merge_alone, merged_unasked, merges_alone, merges_written, origins_by_requests, unasked}
+use Rattle.script_thai.proofs.Counted.{last_counted}
+use Rattle.buffer_stages.specs.Lemmas.Nested.{merged_length as merged_many}
 
 -- ---- the merges before, by the character before each
 
@@ -68,9 +70,6 @@ pass_whole (x ∷ xs) = pass_is 0 x xs ∙ ap (λ es. es ++ merges_before (0 + 1
 
 abbrev ends_with_base : List Item → Bool
 ends_with_base out = not (length out == 0) && (count_above out == 0)
-
-last_counted : (out : List Item) (x : Item) → count_above (out ++ x ∷ []) ≡ (if is_mark_above x then 1 + count_above out else 0)
-last_counted out x = ap (prefix_len is_mark_above) (reverse-append out (x ∷ []))
 
 base_last : (out : List Item) (x : Item) → ends_with_base (out ++ x ∷ []) ≡ not (is_mark_above x)
 base_last out x =
@@ -256,7 +255,7 @@ written_count level at n k os long =
     by_tests false true = refl
     by_tests false false = refl
 
-above_few : (out : List Item) → count_above out ≤ length out
+pub above_few : (out : List Item) → count_above out ≤ length out
 above_few out =
     let n = prefix_len is_mark_above (reverse out) in
     let a = length-prefix_len is_mark_above (reverse out) in

@@ -7,21 +7,24 @@ use Rattle.std.proofs.lemmas.List.{drop_at, drop-drop, drop-map, length-append, 
 use Rattle.buffer_glyphs.specs.declared.level.BufferClusterLevel.{BufferClusterLevel}
 use Rattle.buffer_glyphs.specs.declared.level.BufferClusterLevel.TheVariants.{MonotoneGraphemes, MonotoneCharacters, Characters, Graphemes}
 use Rattle.buffer_glyphs.specs.Parts.{elements_replaced, range_of}
-use Rattle.buffer_glyphs.specs.Merging.{order_kept_as}
+use Rattle.buffer_glyphs.proofs.Merging.{order_kept_as}
 use Rattle.buffer_glyphs.specs.Merges.{least_number, merged_number, merged_numbers}
 use Rattle.buffer_glyphs.specs.Order.{IsChain, IsInOrder, has_number}
 use Rattle.buffer_glyphs.specs.Levels.{InOutput, grapheme_manner}
 use Rattle.buffer_glyphs.specs.Origins.{Origin, numbers, cast, added_outside, flags_added, origins_marked, origins_merged, Unites, origins_merged_as, with_range_arranged}
 use Rattle.buffer_glyphs.specs.Events.{Event, MergeGrapheme, Replace, Move, origins_after}
 use Rattle.buffer_glyphs.specs.Lemmas.Ends.{from_first}
-use Rattle.buffer_glyphs.specs.Lemmas.Merges.{chain_across, chain_right, least_number_is, stands_chain}
+use Rattle.buffer_glyphs.specs.Lemmas.Merges.{chain_across, chain_right, least_number_is, stands_chain, has_least}
 use Rattle.buffer_glyphs.specs.Lemmas.Numbers.{Has, has_here, has_map, has_take, has_drop, map_has}
 use Rattle.buffer_glyphs.specs.Lemmas.Origins.{number_cast, number_outside, numbers_marked, numbers_merged}
 use Rattle.buffer_glyphs.specs.Lemmas.Parts.{Stands, stands_self}
 use Rattle.buffer_glyphs.specs.Lemmas.Replacements.{among_seen}
-use Rattle.shape_parts.proofs.Unions.{below, range_map}
-use Rattle.shape_parts.proofs.Carried.{arranged_rest, arranged_seen, begins_at, both_pass, carried_passes, merge_passes, merged_many, replaced_is, replaced_rest, replacing_carries}
+use Rattle.shape_parts.proofs.Unions.{below}
+use Rattle.shape_parts.proofs.Carried.{arranged_rest, arranged_seen, begins_at, both_pass, carried_passes, merge_passes, replaced_is, replaced_rest, replacing_carries}
 use Rattle.shape_parts.proofs.WrittenEvents.{AreWritten, numbers_after, unasked}
+use Rattle.buffer_stages.specs.Lemmas.Nested.{not_merged, merged_length as merged_many}
+use Rattle.buffer_core.proofs.MergedOrigins.{cast_self as same_cast}
+use Rattle.buffer_parts.specs.Lemmas.Groups.{range_map}
 
 -- ---- walks
 
@@ -140,9 +143,6 @@ moved_order falls from order os fits h =
 
 -- ---- a composed syllable
 
-same_cast : (c : ℕ) (o : Origin) → c ≡ o.cluster → cast c 0 o ≡ o
-same_cast c o e = let same : (o.cluster == c) ≡ true = grind (arith, common_steps, e) in ap (λ t. if t then o else record { cluster = c; flags = 0 }) same
-
 -- what a composed syllable leaves: its first origin, flagged where it isn't of the least cluster
 flagged_is : (at n : ℕ) (os : List Origin) (o : Origin) (rest : List Origin) → 0 < n → at + n ≤ length os → drop at os ≡ o ∷ rest
     → flagged at n os ≡ take at os ++ (added_outside 3 (least_number (range_of at (at + n) (numbers os))) o ∷ []) ++ drop (at + n) os
@@ -174,13 +174,6 @@ abbrev Stays : List ℕ → List ℕ → ℕ → Type 0
 Stays range more c =
     ((merged_number more c ≡ c) × ((c == least_number range) ≡ (c == least_number (map (merged_number more) range))))
     ⊎ ((c ≡ least_number range) × (merged_number more c ≡ least_number (map (merged_number more) range)))
-
-not_merged : (more : List ℕ) (n : ℕ) → has_number more n ≡ false → merged_number more n ≡ n
-not_merged more n e = ap (λ t. if t then least_number more else n) e
-
-has_least : (n : ℕ) (ms : List ℕ) → Has ms n → Has ms (least_number ms)
-has_least n [] h = cc
-has_least n (m ∷ ms) h = (least_number_is m ms).among
 
 -- what is known of the clusters of a syllable, from a first one on, and of later ones
 record AreFirst (falls : Bool) (c : ℕ) (ms more : List ℕ) : Type 0 where

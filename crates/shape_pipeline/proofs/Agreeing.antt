@@ -31,6 +31,7 @@ use Rattle.shape_pipeline.specs.Results.{AgreeOn, AreSame, AreSameItems, IsShape
 use Rattle.shape_pipeline.specs.Shaped.{by_plan, by_text, language_tags, text_reading}
 use Rattle.shape_pipeline.specs.Shaping.{Shaping}
 use Rattle.shape_pipeline.proofs.Shaped.{planned_for}
+use Rattle.buffer_core.specs.Steps.{follows_once as runs_are_one}
 
 -- ---- a glyph is its item and its origin
 
@@ -65,10 +66,6 @@ glyphs_again [] = refl
 glyphs_again (g ∷ gs) = rw (glyph_again g, glyphs_again gs) refl
 
 -- ---- one reading has one result
-
-runs_are_one : (r : Reading) (text a b : BufferState) → Follows r text a → Follows r text b → a ≡ b
-runs_are_one (Ok r) text a b f g = f ∙ sym g
-runs_are_one (Err e) text a b f g = absurd f
 
 same_of_runs : (a b : Sides) → state_of a ≡ state_of b → AreSame a b
 same_of_runs a b e = record {

@@ -19,12 +19,12 @@ parts_hold : (a b : Bool) → (a && b) ≡ true → (a ≡ true) × (b ≡ true)
 parts_hold true b h = (refl, h)
 parts_hold false b h = cc
 
-range_none : (b : Bool) (xs ys : List Item) → b ≡ true → (if b then xs else ys) ≡ xs
+pub range_none : (b : Bool) (xs ys : List Item) → b ≡ true → (if b then xs else ys) ≡ xs
 range_none true xs ys h = refl
 range_none false xs ys h = cc
 
 -- features for all glyphs set no mask of a range
-no_ranges : (map : OtMapValue) (fs : List Feature) (ns : List ℕ) (xs : List Item) → have_no_ranges fs ≡ true → with_all_ranges map fs ns xs ≡ xs
+pub no_ranges : (map : OtMapValue) (fs : List Feature) (ns : List ℕ) (xs : List Item) → have_no_ranges fs ≡ true → with_all_ranges map fs ns xs ≡ xs
 no_ranges map [] ns xs h = refl
 no_ranges map (f ∷ fs) ns xs h =
     let both = parts_hold (is_global f) (have_no_ranges fs) h in
@@ -34,7 +34,7 @@ no_ranges map (f ∷ fs) ns xs h =
 ranges_alike : (p : Shaping) (ns ms : List ℕ) (v : View) → have_no_ranges p.features ≡ true → ranges_set p ns v ≡ ranges_set p ms v
 ranges_alike p ns ms v h = ap (λ xs. Ok (with_events [] (record v { items = xs }))) (no_ranges p.map p.features ns v.items h ∙ sym (no_ranges p.map p.features ms v.items h))
 
-then_alike : (r : Reading) (a b : Stage) → ((v : View) → a v ≡ b v) → and_then r a ≡ and_then r b
+pub then_alike : (r : Reading) (a b : Stage) → ((v : View) → a v ≡ b v) → and_then r a ≡ and_then r b
 then_alike (Ok r) a b same = ap (then_reading r) (same r.view)
 then_alike (Err e) a b same = refl
 

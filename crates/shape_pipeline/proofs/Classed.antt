@@ -20,12 +20,9 @@ use Rattle.shape_pipeline.specs.Glyphs.{as_classed_glyph, glyphs_substituted, gl
 use Rattle.shape_pipeline.specs.Shaping.{Shaping, pauses_of}
 use Rattle.shape_pipeline.proofs.Lemmas.Chains.{alike_followed, done_followed, four_followed, fourth_refused, in_order_after, in_order_both}
 use Rattle.shape_pipeline.proofs.Sets.{done_as_set, refused_as_set, set_as}
+use Rattle.shape_glyphs.proofs.Ended.{glyph_if as chosen_if}
 
 -- ---- one item
-
-chosen_if : (n : ℕ) (b : Bool) → nat_le n 65535 ≡ b → nat_le (if b then n else 0) 65535 ≡ true
-chosen_if n true h = h
-chosen_if n false h = refl
 
 chosen_fits : (n : ℕ) → nat_le (glyph_or_missing n) 65535 ≡ true
 chosen_fits n = chosen_if n (nat_le n 65535) refl

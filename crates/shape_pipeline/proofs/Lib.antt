@@ -1,5 +1,5 @@
 pub mod Lemmas
-mod Alike
+pub mod Alike
 mod Spread
 mod Sets
 mod Begun

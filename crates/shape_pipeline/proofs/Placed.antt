@@ -27,6 +27,7 @@ use Rattle.buffer_stages.specs.PositionMaps.{with_positions_mapped}
 use Rattle.shape_pipeline.specs.Positioning.{adjusts_marks, visual_order, marks_positioned, marks_zeroed, with_zero_positions}
 use Rattle.shape_pipeline.specs.Shaping.{Shaping}
 use Rattle.shape_pipeline.proofs.Sets.{widths_followed}
+use Rattle.buffer_core.proofs.Kept.{all_reversed}
 
 pub cleared_done : (s new : Sides) → IsReady s → new ≡ with_cleared_positions s → IsDone (always with_zero_positions) s new
 cleared_done s new ready e =
@@ -90,10 +91,6 @@ and_turned false false = refl
 list_all-reverse : {X : Type 0} (p : X → Bool) (xs : List X) → list_all p (reverse xs) ≡ list_all p xs
 list_all-reverse p [] = refl
 list_all-reverse p (x ∷ xs) = rw (reverse_onto xs x [], list_all-append, list_all-reverse p xs) (and_turned (list_all p xs) (p x))
-
--- the glyphs of a buffer that was reversed
-all_reversed : (s : Sides) → all_glyphs (after_reverse s) ≡ reverse (all_glyphs s)
-all_reversed s = take-append-drop s.read (reverse (all_glyphs s))
 
 abbrev reversed_view : View → View
 reversed_view v = record v { items = reverse v.items; positions = reverse v.positions }

@@ -38,6 +38,7 @@ use Rattle.shape_pipeline.specs.Reading.{reading}
 use Rattle.shape_pipeline.specs.Shaping.{Shaping}
 use Rattle.shape_pipeline.specs.declared.shaping.ShapeFault.{ShapeFault}
 use Rattle.shape_pipeline.specs.Shaped.{by_plan, by_shaper, by_text, language_tags, text_reading}
+use Rattle.shape_pipeline.proofs.Serving.{direction_of_plan as planned_direction}
 
 -- ---- a text without characters, and another
 
@@ -123,10 +124,6 @@ empty_shaped q s mid t new same guess left empty =
     subst P (same ∙ guess) (empty_follows (q s) s new left empty)
 
 -- ---- and whose plan is its own
-
-planned_direction : (font : FaceParts) (languages : List Tag) (d : Direction) (script : Option Script) (features : List Feature) (plan : hb_ot_shape_plan_t hb_ot_any_shaper_t ⊤) → IsPlanned any_kind font languages d script features plan → plan.script_plan.direction ≡ d
-unfolding text_plan
-planned_direction font languages d script features plan is = ap (λ (p : hb_script_plan_t ⊤). p.direction) is.script_plan
 
 pub direction_kept : (font : FaceParts) (languages : List Tag) (d : Direction) (script : Option Script) (features : List Feature) (plan : hb_ot_shape_plan_t hb_ot_any_shaper_t ⊤) (r : Result Sides ShapeFault) (s mid t : Sides) → IsPlanned any_kind font languages d script features plan → d ≡ s.direction
     → s ≡ mid → mid ≡ t → Keeps plan.script_plan.direction s r → IfOk r (λ (glyphs : Sides). glyphs.direction ≡ t.direction)

@@ -16,6 +16,7 @@ use Rattle.shape_pipeline.specs.Reading.{after_ranges, before_ranges, clusters_a
 use Rattle.shape_pipeline.specs.Shaping.{Shaping}
 use Rattle.shape_pipeline.proofs.Lemmas.Chains.{first_refused, third_refused, three_followed}
 use Rattle.shape_pipeline.proofs.Sets.{followed_as_set, refused_as_set, set_as}
+use Rattle.buffer_glyphs.specs.Lemmas.Origins.{numbers_origins as numbers_seen}
 
 -- ---- the cursor in front
 
@@ -38,10 +39,6 @@ pub rewound_run : (s new : Sides) → new ≡ after_move_to 0 s → all_glyphs n
 rewound_run s new e all = ap (λ (t : Sides). run_with_glyphs (all_glyphs new) t) e ∙ ap (λ gs. run_with_glyphs gs s) all
 
 -- ---- the numbers of clusters where the masks of ranges are set
-
-numbers_seen : (gs : List hb_glyph_info_t) → numbers (origins gs) ≡ clusters gs
-numbers_seen [] = refl
-numbers_seen (g ∷ gs) = ap (λ ns. g.cluster ∷ ns) (numbers_seen gs)
 
 numbers_followed : (r : Reading) (old new : BufferState) → Follows r old new → numbers new.origins ≡ clusters_after r old
 numbers_followed (Ok r) old new f = ap (λ (run : BufferState). numbers run.origins) f

@@ -11,6 +11,7 @@ use Rattle.shape_premises.specs.Texts.{has_whole, is_in_font, run_after, run_gro
 use Rattle.buffer_unicode_tables.specs.Tables.{Tables, class_of}
 use Rattle.buffer_unicode_tables.specs.Texts.{full_expansion, full_text}
 use Rattle.layout_face.specs.declared.parts.FaceParts.{FaceParts}
+use Rattle.buffer_properties.proofs.Short.{short_first as short_within}
 
 pub run_after_both : (class : ℕ → ℕ) (met : Option ℕ) (us vs : List ℕ) → run_after class met (us ++ vs) ≡ run_after class (run_after class met us) vs
 run_after_both class None us [] = refl
@@ -139,10 +140,6 @@ short_from : (class : ℕ → ℕ) (met : ℕ) (us : List ℕ) → met ≤ 32 �
 short_from class met [] le e = le
 short_from class met (u ∷ us) le e =
     (le, class_short class met us (class u == 0) (short_from class 0 us (omega arith)) (room_short class met us (nat_lt met 32) refl (short_from class (met + 1) us)) e)
-
-short_within : (class : ℕ → ℕ) (met : ℕ) (us : List ℕ) → HasShortRuns class met us → met ≤ 32
-short_within class met [] h = h
-short_within class met (u ∷ us) h = h.0
 
 room_some : (class : ℕ → ℕ) (met : ℕ) (us : List ℕ) (t : Bool) → nat_lt met 32 ≡ t → HasShortRuns class (met + 1) us → is_some (run_after class (Some (met + 1)) us) ≡ true → is_some (run_after class (if t then Some (met + 1) else None) us) ≡ true
 room_some class met us true l h k = k

@@ -3,7 +3,7 @@ use Rattle.std.proofs.Common.{ℕ, ◌≡◌, ◌≤◌, ◌<◌, ◌+◌, ◌-�
 use Rattle.std.proofs.lemmas.List.{drop_all, drop_more, length-map, reverse-append}
 use Rattle.buffer_glyphs.specs.declared.info.hb_glyph_info_t.{hb_glyph_info_t}
 use Rattle.buffer_glyphs.specs.Items.{Item, item_of, strip}
-use Rattle.buffer_glyphs.specs.Lists.{get_or_mapped, take_next, take_one}
+use Rattle.buffer_glyphs.proofs.Lists.{get_or_mapped, take_next, take_one}
 use Rattle.buffer_properties.specs.Categories.{is_decimal_number}
 use Rattle.shape_text.specs.Fractions.{digits, digits_before, digits_after}
 

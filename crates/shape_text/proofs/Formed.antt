@@ -15,7 +15,7 @@ use Rattle.buffer_glyphs.specs.Events.{Event, origins_after}
 use Rattle.buffer_core.specs.Readings.{View, always}
 use Rattle.buffer_core.specs.Graphemes.{continues}
 use Rattle.buffer_lists.specs.Groups.{group_length, joined_count}
-use Rattle.buffer_lists.specs.Lemmas.Ranges.{lengths_cut}
+use Rattle.buffer_lists.proofs.Lemmas.Ranges.{lengths_cut}
 use Rattle.buffer_lists.specs.Runs as Runs
 use Rattle.buffer_core.specs.Sides.{Settings, Sides, all_glyphs, flag_requests_of, items_of, origins_of, stage_flags, view_of}
 use Rattle.buffer_stages.specs.Ready.{IsReady}

@@ -19,13 +19,13 @@ use Rattle.buffer_core.specs.Marking.{requests_concat, concat_marked, with_flagg
 use Rattle.buffer_core.specs.Merging.{index_in_all}
 use Rattle.buffer_core.specs.Sides.{Sides, all_glyphs, items_of, origins_by, origins_of, state_of, settings_of, view_of}
 use Rattle.buffer_stages.specs.Ready.{IsReady}
-use Rattle.buffer_stages.proofs.Lemmas.Happened.{call_happens, nothing_happens}
+use Rattle.buffer_stages.proofs.Lemmas.Happened.{call_happens, nothing_happens, whole_index}
 use Rattle.buffer_stages.specs.Lemmas.Written.{happened_followed, happens_followed}
 use Rattle.buffer_stages.specs.Stages.{Becomes, Happens, IsFollowed}
 use Rattle.shape_text.specs.declared.fractions.FractionMasks.{FractionMasks}
 use Rattle.shape_text.specs.Fractions.{around_slash, fraction_at, digits_before, digits_after, first_mask, fraction_items, fractions_to, is_slash, is_slash_at, last_mask, with_features_within, with_fractions}
 use Rattle.shape_text.proofs.RangeMasks.{become_both, items_now}
-use Rattle.buffer_glyphs.specs.Lists.{get_or_mapped}
+use Rattle.buffer_glyphs.proofs.Lists.{get_or_mapped}
 
 -- ---- masks without glyph flags
 
@@ -59,11 +59,6 @@ fraction_becomes m start at end s a b c f g h =
     become_both ys (with_features_within (last_mask s.direction m) (at + 1) end ys) s b c fg h'
 
 -- ---- a slash
-
-whole_index : (i : ℕ) (s : Sides) → IsReady s → index_in_all i s ≡ i
-whole_index i s ready =
-    let none = ap (λ (ys : List hb_glyph_info_t). length ys) ready.front in
-    omega (arith, none, ready.unread)
 
 concat_cases : (b : Bool) (es : List Event) (i j : ℕ) (s new : Sides) → new ≡ (if b then with_flagged 2 i j s else s) → items_of new ≡ items_of s → origins_of new ≡ origins_by es s → IsReady s → Happens es s new
 concat_cases true es i j s new e items origins ready = call_happens (glyphs_flagged 2 i j (all_glyphs s)) (nat_lt i j) es s new e items origins ready

@@ -14,7 +14,7 @@ use Rattle.buffer_lists.specs.Groups.{group_length}
 use Rattle.buffer_lists.specs.Turning.{Turning, groups_reversed_list, turning_of}
 use Rattle.buffer_lists.specs.Facts.{group_lengths, positions_turned, pieces_reversed}
 use Rattle.buffer_lists.specs.Events.{groups_reversed}
-use Rattle.buffer_lists.specs.Lemmas.Ranges.{lengths_cut}
+use Rattle.buffer_lists.proofs.Lemmas.Ranges.{lengths_cut}
 use Rattle.buffer_core.specs.Grouping.{with_groups_reversed}
 use Rattle.buffer_core.specs.Merging.{with_has_glyph_flags}
 use Rattle.buffer_core.proofs.Told.{stage_flags_ignore_glyph_flags}

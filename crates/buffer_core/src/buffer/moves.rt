@@ -38,7 +38,7 @@ impl hb_buffer_t {
 
     /// Deletes the glyph at the cursor, with no merge of clusters; where PRODUCE_SAFE_BREAKS is set, it hands on its flags.
     /// It takes no memory.
-    #[tactic(auto, using(buffer_glyphs::specs::Lists::drop_next))]
+    #[tactic(auto, using(buffer_glyphs::proofs::Lists::drop_next))]
     pub fn skip_glyph(&mut self)
         requires current { HasCurrent self.old }
         ensures skipped { self.new ≡ with_glyph_skipped self.old }
@@ -51,7 +51,7 @@ impl hb_buffer_t {
     }
 
     /// Deletes the glyph at the cursor, whose flags are handed on later.
-    #[tactic(auto, using(buffer_glyphs::specs::Lists::drop_next))]
+    #[tactic(auto, using(buffer_glyphs::proofs::Lists::drop_next))]
     fn pass_over(&mut self)
         requires current { HasCurrent self.old }
         ensures skipped { self.new ≡ with_glyph_passed self.old }

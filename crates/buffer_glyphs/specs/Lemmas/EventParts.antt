@@ -46,7 +46,7 @@ numbers_with_circle after beside like os =
     ∙ ap (λ ns. take beside (numbers os) ++ ns) (numbers_circled after (flags_at like os) (drop beside os) ∙ ap (λ ns. copies 2 (first_of ns) ++ drop 1 ns) (sym (drop-map n beside os)) ∙ ap (λ ns. copies 2 (first_of (drop beside (numbers os))) ++ ns) (drop-drop 1 beside (numbers os)))
     ∙ sym (append_assoc (take beside (numbers os)) (copies 2 (first_of (drop beside (numbers os)))) (drop (beside + 1) (numbers os)))
 
-numbers_picked : (all : List Origin) (order : List ℕ) (os : List Origin) → numbers (picked_elements all order os) ≡ picked_elements (numbers all) order (numbers os)
+pub numbers_picked : (all : List Origin) (order : List ℕ) (os : List Origin) → numbers (picked_elements all order os) ≡ picked_elements (numbers all) order (numbers os)
 numbers_picked all [] os = refl
 numbers_picked all (i ∷ order) [] = refl
 numbers_picked all (i ∷ order) (o ∷ os) = rw (got all i, numbers_picked all order os) refl
@@ -56,7 +56,7 @@ numbers_picked all (i ∷ order) (o ∷ os) = rw (got all i, numbers_picked all 
     got (q ∷ qs) zero = refl
     got (q ∷ qs) (suc k) = got qs k
 
-numbers_arranged : (from : ℕ) (order : List ℕ) (os : List Origin) → numbers (with_range_arranged from order os) ≡ with_range_arranged from order (numbers os)
+pub numbers_arranged : (from : ℕ) (order : List ℕ) (os : List Origin) → numbers (with_range_arranged from order os) ≡ with_range_arranged from order (numbers os)
 numbers_arranged from order os =
     let n : Origin → ℕ = λ o. o.cluster in
     map-append n (take from os) (picked_elements (take (length order) (drop from os)) order (drop from os))
@@ -67,7 +67,7 @@ pub numbers_spread : (asks : Asks) (before : Option Origin) (os : List Origin) �
 numbers_spread asks before [] = refl
 numbers_spread asks before (o ∷ os) = ap (λ ns. o.cluster ∷ ns) (numbers_spread asks (Some (record { cluster = o.cluster; flags = spread_flags before o.cluster (settled_flags asks (run_flags o.cluster (o ∷ os))) })) os)
 
-numbers_reset : (os : List Origin) → numbers (without_marks os) ≡ numbers os
+pub numbers_reset : (os : List Origin) → numbers (without_marks os) ≡ numbers os
 numbers_reset [] = refl
 numbers_reset (o ∷ os) = ap (λ ns. o.cluster ∷ ns) (numbers_reset os)
 
@@ -88,7 +88,7 @@ numbers_strict false from to os = refl
 same_brings : (old new : List ℕ) → new ≡ old → BringsNone old new
 same_brings old new e = λ n h. subst (λ (ns : List ℕ). Has ns n) e h
 
-merged_brings : (m : Manner) (from to : ℕ) (os : List Origin) → BringsNone (numbers os) (numbers (origins_merged_as m from to os))
+pub merged_brings : (m : Manner) (from to : ℕ) (os : List Origin) → BringsNone (numbers os) (numbers (origins_merged_as m from to os))
 merged_brings m from to os = λ n h. numbers_brought m from to (numbers os) n (subst (λ (ns : List ℕ). Has ns n) (numbers_merged_by m from to os) h)
 
 picked_brings : (all : List ℕ) (order ns : List ℕ) (n : ℕ) → Has (picked_elements all order ns) n → Has all n ⊎ Has ns n
@@ -126,7 +126,7 @@ first_brings level front (o ∷ back) = λ n h.
 deleted_brings : (level : BufferClusterLevel) (at : ℕ) (os : List Origin) → BringsNone (numbers os) (numbers (origins_deleted level at os))
 deleted_brings level at os = λ n h. subst (λ (qs : List Origin). Has (numbers qs) n) (take-append-drop at os) (first_brings level (take at os) (drop at os) n h)
 
-spans_bring : (m : Manner) (at : ℕ) (ss : List Span) (os : List Origin) → BringsNone (numbers os) (numbers (spans_merged m at ss os))
+pub spans_bring : (m : Manner) (at : ℕ) (ss : List Span) (os : List Origin) → BringsNone (numbers os) (numbers (spans_merged m at ss os))
 spans_bring m at [] os = λ n h. h
 spans_bring m at (s ∷ ss) os =
     let mid = origins_merged_as m (at + s.from) (at + s.to) os in
@@ -213,7 +213,7 @@ first_parts level at os (q ∷ back) mono o e =
     let place : length front ≡ at = length-map (take at os) n ∙ length_of_front at os q back e in
     numbers_deleted level (take at os) q back ∙ deletion_parts level front q.cluster (numbers back) mono (subst IsOrdered (sym whole) o) ∙ ap (λ ns. after_part_event ns (DeletePart (length front))) whole ∙ ap (λ k. after_part_event (numbers os) (DeletePart k)) place
 
-picked_alike : (low : ℕ) (all order ns : List ℕ) → ((k : ℕ) → Has all k → k ≡ low) → ((k : ℕ) → Has (take (length order) ns) k → k ≡ low) → picked_elements all order ns ≡ ns
+pub picked_alike : (low : ℕ) (all order ns : List ℕ) → ((k : ℕ) → Has all k → k ≡ low) → ((k : ℕ) → Has (take (length order) ns) k → k ≡ low) → picked_elements all order ns ≡ ns
 picked_alike low all [] ns one near = refl
 picked_alike low all (i ∷ order) [] one near = refl
 picked_alike low all (i ∷ order) (m ∷ ns) one near =

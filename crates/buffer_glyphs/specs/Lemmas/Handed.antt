@@ -48,7 +48,7 @@ last_turned v f h xs same =
 pub unsafe_seen : (m : ℕ) → is_unsafe m ≡ is_unsafe (bit_and m 7)
 unsafe_seen m = ap (λ n. not (n == 0)) (sym (and_assoc 5 m 7))
 
-flags_defined : (m : ℕ) → bit_and m 7 < 8
+pub flags_defined : (m : ℕ) → bit_and m 7 < 8
 flags_defined m = let low = and_mask m 3 in omega (arith, low)
 
 unsafe_defined : (c : ℕ) (gs : List hb_glyph_info_t) → unsafe_flags c (origins gs) < 8
@@ -110,9 +110,6 @@ sides_back_items true gone s = after_items gone (last_of (clusters s.front)) s.b
 
 pub sides_front_count : (breaks : Bool) (gone : List hb_glyph_info_t) (s : DeletionSides) → length (sides_handed_if breaks gone s).front ≡ length s.front
 sides_front_count breaks gone s = sym (length-map (sides_handed_if breaks gone s).front item_of) ∙ ap length (sides_front_items breaks gone s) ∙ length-map s.front item_of
-
-pub sides_back_count : (breaks : Bool) (gone : List hb_glyph_info_t) (s : DeletionSides) → length (sides_handed_if breaks gone s).back ≡ length s.back
-sides_back_count breaks gone s = sym (length-map (sides_handed_if breaks gone s).back item_of) ∙ ap length (sides_back_items breaks gone s) ∙ length-map s.back item_of
 
 pub sides_front_clusters : (breaks : Bool) (gone : List hb_glyph_info_t) (s : DeletionSides) → clusters (sides_handed_if breaks gone s).front ≡ clusters s.front
 sides_front_clusters false gone s = refl
@@ -256,48 +253,6 @@ sides_same true h g s e same =
   where
     some_is : {x y : hb_glyph_info_t} → Some x ≡ Some y → x ≡ y
     some_is e = cc
-
-pub same_handed : (asked : Bool) (o : Origin) (seam : ℕ) (os : List Origin) → last_of (take seam os) ≡ Some o → origins_handed_if asked (o ∷ []) seam os ≡ os
-same_handed false o seam os e = refl
-same_handed true o seam os e =
-    let front = take seam os in
-    let back = drop seam os in
-    let before : last_of (numbers front) ≡ Some o.cluster = seen_last (λ (q : Origin). q.cluster) o front e in
-    let same : (q : Origin) → last_of front ≡ Some q → flags_added (unsafe_flags o.cluster (o ∷ [])) q ≡ q = λ q is. let one : q ≡ o = some_is (sym is ∙ e) in rw one (ap (λ f. record o { flags = f }) (own_flags o.cluster o)) in
-    ap (λ n. with_last_changed (flags_added (flags_for n (o ∷ []))) front ++ origins_handed_after (o ∷ []) n back) before
-    ∙ ap (λ qs. qs ++ origins_handed_after (o ∷ []) (Some o.cluster) back) (last_fixed (flags_added (unsafe_flags o.cluster (o ∷ []))) front same)
-    ∙ ap (λ qs. front ++ qs) (first_fixed (flags_added (flags_for (other_cluster (Some o.cluster) (first_of (numbers back))) (o ∷ []))) back (no_flags_added (flags_for (other_cluster (Some o.cluster) (first_of (numbers back))) (o ∷ [])) (other_flags o (first_of (numbers back)))))
-    ∙ take-append-drop seam os
-  where
-    some_is : {x y : Origin} → Some x ≡ Some y → x ≡ y
-    some_is e = cc
-
-last_copy : {X : Type 0} (xs : List X) (n : ℕ) (y : X) → last_of (xs ++ replicate (suc n) y) ≡ Some y
-last_copy [] zero y = refl
-last_copy [] (suc n) y = last_beyond y y (replicate n y) ∙ last_copy [] n y
-last_copy (x ∷ []) n y = last_beyond x y (replicate n y) ∙ last_copy [] n y
-last_copy (x ∷ z ∷ xs) n y = last_beyond x z (xs ++ replicate (suc n) y) ∙ last_copy (z ∷ xs) n y
-
-taken_many : {X : Type 0} (i : ℕ) (xs : List X) (y : X) (ys : List X) → drop i xs ≡ y ∷ ys → length (take i xs) ≡ i
-taken_many zero xs y ys e = refl
-taken_many (suc i) [] y ys e = cc
-taken_many (suc i) (x ∷ xs) y ys e = ap suc (taken_many i xs y ys e)
-
--- one that is replaced by copies of itself hands on nothing
-pub copied_handed : (asked : Bool) (at n : ℕ) (os : List Origin) → origins_handed_if asked (take 1 (drop at os)) (at + suc n) (elements_replaced at 1 (suc n) os) ≡ elements_replaced at 1 (suc n) os
-copied_handed asked at n os = by_rest (drop at os) refl
-  where
-    by_rest : (rest : List Origin) → drop at os ≡ rest → origins_handed_if asked (take 1 (drop at os)) (at + suc n) (elements_replaced at 1 (suc n) os) ≡ elements_replaced at 1 (suc n) os
-    by_rest [] e = ap (λ qs. origins_handed_if asked (take 1 qs) (at + suc n) (elements_replaced at 1 (suc n) os)) e ∙ none_handed asked (at + suc n) (elements_replaced at 1 (suc n) os)
-    by_rest (o ∷ back) e =
-        let front = take at os in
-        let copied : elements_replaced at 1 (suc n) os ≡ (front ++ replicate (suc n) o) ++ drop (at + 1) os = ap (λ qs. front ++ copies (suc n) (or (first_of qs) (last_of front)) ++ drop (at + 1) os) e in
-        let long : length front ≡ at = taken_many at os o back e in
-        let whole : length (front ++ replicate (suc n) o) ≡ at + suc n = length-append front (replicate (suc n) o) ∙ ap (λ k. k + length (replicate (suc n) o)) long ∙ ap (λ k. at + k) (length-replicate (suc n) o) in
-        let before : take (at + suc n) (elements_replaced at 1 (suc n) os) ≡ front ++ replicate (suc n) o =
-        ap (take (at + suc n)) copied ∙ ap (λ k. take k ((front ++ replicate (suc n) o) ++ drop (at + 1) os)) (sym whole) ∙ take-append_seam (front ++ replicate (suc n) o) (drop (at + 1) os) in
-        ap (λ qs. origins_handed_if asked (take 1 qs) (at + suc n) (elements_replaced at 1 (suc n) os)) e
-        ∙ same_handed asked o (at + suc n) (elements_replaced at 1 (suc n) os) (ap last_of before ∙ last_copy front n o)
 
 -- no glyph is left
 pub handed_nowhere : (asked : Bool) (gone : List Origin) (m n : ℕ) → origins_handed_if asked gone m [] ≡ origins_handed_if asked gone n []

@@ -43,7 +43,7 @@ least_number_is n ns = least_from n ns
 same_least : (k m : ℕ) (ns : List ℕ) → IsLeast k ns → IsLeast m ns → k ≡ m
 same_least k m ns l r = omega (arith, l.below m r.among, r.below k l.among)
 
-has_least : (n : ℕ) (range : List ℕ) → Has range n → Has range (least_number range)
+pub has_least : (n : ℕ) (range : List ℕ) → Has range n → Has range (least_number range)
 has_least n [] h = cc
 has_least n (x ∷ xs) h = (least_number_is x xs).among
 
@@ -180,7 +180,7 @@ merge_joins level from to ns le mono o = by_manner (manner InList level) mono
     by_manner Marks u = absurd u
     by_manner Keeps u = absurd u
 
-has_in_range : (from to n : ℕ) (ns : List ℕ) → Has (range_of from to ns) n → Has ns n
+pub has_in_range : (from to n : ℕ) (ns : List ℕ) → Has (range_of from to ns) n → Has ns n
 has_in_range from to n ns h = has_drop n from ns (has_take n (to - from) (drop from ns) h)
 
 merged_known : (range ns : List ℕ) → ((n : ℕ) → Has range n → Has ns n) → (n : ℕ) → Has ns n → (t : Bool) → has_number range n ≡ t → Has ns (if t then least_number range else n)

@@ -19,7 +19,7 @@ pub stands_self : (falls : Bool) (x : ℕ) → Stands falls x x
 stands_self false x = omega arith
 stands_self true x = omega arith
 
-united_rises : (m n x y : ℕ) → x ≤ y → united_number (min m n) (max m n) x ≤ united_number (min m n) (max m n) y
+pub united_rises : (m n x y : ℕ) → x ≤ y → united_number (min m n) (max m n) x ≤ united_number (min m n) (max m n) y
 united_rises m n x y h = grind (arith, nat_tests, common_steps)
 
 united_stands : (falls : Bool) (m n x y : ℕ) → Stands falls x y → Stands falls (united_number (min m n) (max m n) x) (united_number (min m n) (max m n) y)

@@ -7,11 +7,9 @@ use Rattle.buffer_glyphs.specs.Origins.{Asks, Origin, origin_of, origins, concat
 use Rattle.buffer_lists.specs.Flags.{before_of, cluster_flags}
 use Rattle.std.proofs.lemmas.List.{drop_more, drop-set-lt, map-append, take_more_set}
 use Rattle.std.proofs.lemmas.Nat.{and_le_r, and_mask, or_lt}
+use Rattle.buffer_glyphs.specs.Lemmas.Handed.{flags_defined as defined}
 
 -- ---- no flag is other than the three
-
-defined : (m : ℕ) → bit_and m 7 < 8
-defined m = let low = and_mask m 3 in omega (arith, low)
 
 or_defined : (m n : ℕ) → m < 8 → n < 8 → bit_or m n < 8
 or_defined m n a b = or_lt 3 m n a b

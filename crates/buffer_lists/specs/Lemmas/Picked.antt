@@ -26,13 +26,13 @@ arranged_as from order zs xs h le =
     ap (λ ys. take from xs ++ ys) (picked_are (take (length order) (drop from xs)) order zs (drop from xs) h few ∙ ap (λ ys. zs ++ ys) (drop-drop (length order) from xs))
     ∙ sym (append_assoc (take from xs) zs (drop (from + length order) xs))
 
-are_both : {X : Type 0} (all : List X) (is : List ℕ) (zs : List X) (js : List ℕ) (ws : List X) → AreAt all is zs → AreAt all js ws → AreAt all (is ++ js) (zs ++ ws)
+pub are_both : {X : Type 0} (all : List X) (is : List ℕ) (zs : List X) (js : List ℕ) (ws : List X) → AreAt all is zs → AreAt all js ws → AreAt all (is ++ js) (zs ++ ws)
 are_both all [] [] js ws h k = k
 are_both all [] (z ∷ zs) js ws h k = absurd h
 are_both all (i ∷ is) [] js ws h k = absurd h
 are_both all (i ∷ is) (z ∷ zs) js ws h k = (h.0, are_both all is zs js ws h.1 k)
 
-reversed_onto : {X : Type 0} (x : X) (xs : List X) → reverse (x ∷ xs) ≡ reverse xs ++ x ∷ []
+pub reversed_onto : {X : Type 0} (x : X) (xs : List X) → reverse (x ∷ xs) ≡ reverse xs ++ x ∷ []
 reversed_onto x xs = reverse-append (x ∷ []) xs
 
 pub are_reversed : {X : Type 0} (all : List X) (is : List ℕ) (zs : List X) → AreAt all is zs → AreAt all (reverse is) (reverse zs)
@@ -41,7 +41,7 @@ are_reversed all [] (z ∷ zs) h = absurd h
 are_reversed all (i ∷ is) [] h = absurd h
 are_reversed all (i ∷ is) (z ∷ zs) h = rw (reversed_onto i is, reversed_onto z zs) (are_both all (reverse is) (reverse zs) (i ∷ []) (z ∷ []) (are_reversed all is zs h.1) (h.0, tt))
 
-got_after : {X : Type 0} (front : List X) (x : X) (xs : List X) → slice_get (front ++ x ∷ xs) (length front) ≡ Some x
+pub got_after : {X : Type 0} (front : List X) (x : X) (xs : List X) → slice_get (front ++ x ∷ xs) (length front) ≡ Some x
 got_after [] x xs = refl
 got_after (y ∷ ys) x xs = got_after ys x xs
 

@@ -30,7 +30,7 @@ pub(super) fn carry_out(glyphs: &mut [hb_glyph_info_t], due: DueRange)
     set_clusters(&mut glyphs[due.from..due.to], due.cluster);
 }
 
-#[tactic(auto, using(buffer_glyphs::specs::Lists::map_step))]
+#[tactic(auto, using(buffer_glyphs::proofs::Lists::map_step))]
 fn set_clusters(glyphs: &mut [hb_glyph_info_t], cluster: u32)
     ensures { glyphs.new ≡ map (in_cluster cluster) glyphs.old }
 {

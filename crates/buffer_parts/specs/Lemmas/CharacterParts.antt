@@ -10,15 +10,12 @@ use Rattle.buffer_glyphs.specs.Order.{IsInOrder, BringsNone, IsKept, shares_part
 use Rattle.buffer_glyphs.specs.Lemmas.Deletions.{no_first, no_last, without_map}
 use Rattle.buffer_glyphs.specs.Lemmas.Drawn.{drawn_drop, drawn_take, drawn_replaced, drawn_without, drawn_doubled}
 use Rattle.buffer_glyphs.specs.Lemmas.Numbers.{Has, MayHave, has_here, has_more, has_cases, has_left, has_right, has_either, has_reverse, has_map, map_has, has_first, has_last, drawn_brings}
-use Rattle.buffer_glyphs.specs.Lemmas.Parts.{order_drawn, event_keeps_order, keeps_numbers}
+use Rattle.buffer_glyphs.specs.Lemmas.Parts.{order_drawn, event_keeps_order, keeps_numbers, united_rises}
 use Rattle.buffer_glyphs.specs.Lemmas.Ends.{joined_alike}
 use Rattle.buffer_parts.specs.CharacterParts.{Union, ends_of, neighbour_union, deletion_union, union_of, part_after_union, part_after_event, part_after, items_left, AreUnited, AreUnitedByEvents}
 use Rattle.buffer_parts.specs.Laws.{EventsAreUnions, NumbersAreParts, PartsRise, PartsAreNoGreater, PartsStay, PartsHaveGlyphs, SlicesAreParts, PartsAreUnited}
 
 -- ---- what becomes one
-
-united_rises : (a b x y : ℕ) → x ≤ y → united_number (min a b) (max a b) x ≤ united_number (min a b) (max a b) y
-united_rises a b x y h = grind (arith, nat_tests, common_steps)
 
 united_down : (a b x : ℕ) → united_number (min a b) (max a b) x ≤ x
 united_down a b x = grind (arith, nat_tests, common_steps)

@@ -22,7 +22,7 @@ use Rattle.buffer_parts.specs.Lemmas.Turns.{giving_in_turn}
 
 -- ---- how many
 
-counted_numbers : (os : List Origin) → length (numbers os) ≡ length os
+pub counted_numbers : (os : List Origin) → length (numbers os) ≡ length os
 counted_numbers os = length-map os (λ (o : Origin). o.cluster)
 
 same_count : (os qs : List Origin) → numbers qs ≡ numbers os → length qs ≡ length os

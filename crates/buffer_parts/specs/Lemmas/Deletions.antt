@@ -13,6 +13,7 @@ use Rattle.buffer_parts.specs.TextLaws.{DeletionsUniteTheLast, PartsFitText}
 use Rattle.buffer_parts.specs.Lemmas.CharacterParts.{is_number_has, may_left, may_right, none_beside}
 use Rattle.buffer_parts.specs.Lemmas.Least.{keeps_least}
 use Rattle.buffer_parts.specs.Lemmas.Orderly.{in_order}
+use Rattle.buffer_glyphs.specs.Lemmas.Merges.{stands_chain as in_chain, chain_right as chain_rest}
 
 -- neighbours of an item whose part has another are of that part
 abbrev IsOne : (ℕ → ℕ → Type 0) → Type 0
@@ -20,10 +21,6 @@ IsOne R = (x y : ℕ) → R x y → R y x → x ≡ y
 
 is_number_is : (m n : ℕ) → m ≡ n → is_number (Some m) n ≡ true
 is_number_is m n e = grind (arith, common_steps, e)
-
-chain_rest : (R : ℕ → ℕ → Type 0) (front rest : List ℕ) → IsChain R (front ++ rest) → IsChain R rest
-chain_rest R [] rest c = c
-chain_rest R (x ∷ xs) rest c = chain_rest R xs rest c.1
 
 number_before : (R : ℕ → ℕ → Type 0) → IsOne R → (n : ℕ) (front back : List ℕ) → IsChain R (front ++ n ∷ back) → Has front n → is_number (last_of front) n ≡ true
 number_before R one n [] back c h = cc
@@ -82,10 +79,6 @@ unites_the_last before after n others b a none e = by_sides (is_number before n)
     by_sides true t p q d = inl (is_number_has before n others p b)
     by_sides false true p q d = inl (is_number_has after n others q a)
     by_sides false false p q d = alone before after none d
-
-in_chain : (falls : Bool) (ns : List ℕ) → IsInOrder falls ns → IsChain (Stands falls) ns
-in_chain false ns h = h
-in_chain true ns h = h
 
 pub deletions_unite_the_last : DeletionsUniteTheLast
 deletions_unite_the_last falls at n ns o here = (

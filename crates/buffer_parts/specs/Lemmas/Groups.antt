@@ -18,8 +18,9 @@ use Rattle.buffer_parts.specs.Orderly.{are_one}
 use Rattle.buffer_parts.specs.CharacterParts.{ends_of, part_after_union, part_after_event}
 use Rattle.buffer_parts.specs.Groups.{merges_from, arranges_from, AreOneGroups}
 use Rattle.buffer_parts.specs.TextLaws.{OneGroupsMayTurn, MergedGroupsAreOne, MergedGroupsMayTurn, SingleGroupsAreOne}
-use Rattle.buffer_parts.specs.Lemmas.Orderly.{plain_is_orderly, both_orderly, one_number, orderly_event, numbers_arranged, arranged_one}
+use Rattle.buffer_parts.specs.Lemmas.Orderly.{plain_is_orderly, both_orderly, one_number, orderly_event, arranged_one}
 use Rattle.buffer_parts.specs.Lemmas.CharacterParts.{events_are_unions}
+use Rattle.buffer_glyphs.specs.Lemmas.EventParts.{numbers_arranged}
 
 -- ---- numbers that are one
 
@@ -43,12 +44,8 @@ are_one_map f ns e =
     let one = one_number ns e in
     are_one_from (f one.0) (map f ns) (λ k h. let source = has_map f k ns h in sym source.2 ∙ ap f (one.1 source.0 source.1))
 
-range_map : (f : ℕ → ℕ) (from to : ℕ) (ns : List ℕ) → range_of from to (map f ns) ≡ map f (range_of from to ns)
+pub range_map : (f : ℕ → ℕ) (from to : ℕ) (ns : List ℕ) → range_of from to (map f ns) ≡ map f (range_of from to ns)
 range_map f from to ns = ap (take (to - from)) (drop-map f from ns) ∙ take-map f (to - from) (drop from ns)
-
-groups_map : (f : ℕ → ℕ) (at : ℕ) (lens ns : List ℕ) → AreOneGroups at lens ns → AreOneGroups at lens (map f ns)
-groups_map f at [] ns h = tt
-groups_map f at (n ∷ lens) ns h = (ap are_one (range_map f at (at + n) ns) ∙ are_one_map f (range_of at (at + n) ns) h.0, groups_map f (at + n) lens ns h.1)
 
 -- ---- groups that are one may be turned round
 

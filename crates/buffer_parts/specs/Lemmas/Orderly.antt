@@ -14,7 +14,7 @@ use Rattle.buffer_glyphs.specs.Events.{Event, Merge, MergeGrapheme, Replace, Cir
 use Rattle.buffer_glyphs.specs.EventParts.{parts_of_event, parts_of}
 use Rattle.buffer_glyphs.specs.Lemmas.Numbers.{Has, has_here, has_more, has_cases}
 use Rattle.buffer_glyphs.specs.Lemmas.Parts.{stays_ordered, keeps_order}
-use Rattle.buffer_glyphs.specs.Lemmas.EventParts.{origins_are_parts}
+use Rattle.buffer_glyphs.specs.Lemmas.EventParts.{origins_are_parts, numbers_picked, numbers_arranged, picked_alike as picked_one}
 use Rattle.buffer_parts.specs.Orderly.{are_one, IsOrderlyAt, IsOrderly}
 use Rattle.buffer_parts.specs.Laws.{PlainIsOrderly, OrderlyInTurn, OriginsAreParts, OriginsKeepOrder}
 
@@ -71,19 +71,6 @@ pub one_number : (ns : List ℕ) → are_one ns ≡ true → (low : ℕ) × ((k 
 one_number [] e = (0, λ k h. cc)
 one_number (n ∷ ns) e = (n, λ k h. elim (has_cases n k ns h) [ inl here ↦ sym here | inr later ↦ all_same n ns e k later ])
 
-picked_one : (low : ℕ) (all order ns : List ℕ) → ((k : ℕ) → Has all k → k ≡ low) → ((k : ℕ) → Has (take (length order) ns) k → k ≡ low) → picked_elements all order ns ≡ ns
-picked_one low all [] ns one near = refl
-picked_one low all (i ∷ order) [] one near = refl
-picked_one low all (i ∷ order) (m ∷ ns) one near =
-    let here : m ≡ low = near m (has_here m (take (length order) ns)) in
-    let rest = picked_one low all order ns one (λ k h. near k (has_more m k (take (length order) ns) h)) in
-    ap (λ x. x ∷ picked_elements all order ns) (got all i one here) ∙ ap (λ xs. m ∷ xs) rest
-  where
-    got : (ks : List ℕ) (j : ℕ) → ((k : ℕ) → Has ks k → k ≡ low) → m ≡ low → unwrap_or (slice_get ks j) m ≡ m
-    got [] j alike is = refl
-    got (k ∷ ks) zero alike is = alike k (has_here k ks) ∙ sym is
-    got (k ∷ ks) (suc j) alike is = got ks j (λ l h. alike l (has_more k l ks h)) is
-
 pub arranged_one : (from : ℕ) (order ns : List ℕ) → are_one (range_of from (from + length order) ns) ≡ true → with_range_arranged from order ns ≡ ns
 arranged_one from order ns e =
     let wide : from + length order - from ≡ length order = omega arith in
@@ -91,23 +78,6 @@ arranged_one from order ns e =
     let one = one_number (range_of from (from + length order) ns) e in
     let alike : (k : ℕ) → Has (take (length order) (drop from ns)) k → k ≡ one.0 = λ k h. one.1 k (subst (λ (ks : List ℕ). Has ks k) (sym cut) h) in
     ap (λ ks. take from ns ++ ks) (picked_one one.0 (take (length order) (drop from ns)) order (drop from ns) alike alike) ∙ take-append-drop from ns
-
-numbers_picked : (all : List Origin) (order : List ℕ) (os : List Origin) → numbers (picked_elements all order os) ≡ picked_elements (numbers all) order (numbers os)
-numbers_picked all [] os = refl
-numbers_picked all (i ∷ order) [] = refl
-numbers_picked all (i ∷ order) (o ∷ os) = rw (got all i, numbers_picked all order os) refl
-  where
-    got : (qs : List Origin) (k : ℕ) → (unwrap_or (slice_get qs k) o).cluster ≡ unwrap_or (slice_get (numbers qs) k) o.cluster
-    got [] k = refl
-    got (q ∷ qs) zero = refl
-    got (q ∷ qs) (suc k) = got qs k
-
-pub numbers_arranged : (from : ℕ) (order : List ℕ) (os : List Origin) → numbers (with_range_arranged from order os) ≡ with_range_arranged from order (numbers os)
-numbers_arranged from order os =
-    let n : Origin → ℕ = λ o. o.cluster in
-    map-append n (take from os) (picked_elements (take (length order) (drop from os)) order (drop from os))
-    ∙ ap (λ ns. ns ++ numbers (picked_elements (take (length order) (drop from os)) order (drop from os))) (sym (take-map n from os))
-    ∙ ap (λ ns. take from (numbers os) ++ ns) (numbers_picked (take (length order) (drop from os)) order (drop from os) ∙ ap (λ ns. picked_elements ns order (numbers (drop from os))) (sym (take-map n (length order) (drop from os))) ∙ ap (λ ns. picked_elements (take (length order) ns) order ns) (sym (drop-map n from os)))
 
 -- ---- one event, and all
 

@@ -84,7 +84,7 @@ permuted_even xs r p = sym (length-map r.items (λ (x : Item). x.number)) ∙ le
 pub rule_plainly : (rule : List Item → Arrangement) → ((ys : List Item) → IsSteady (rule ys)) → ((ys : List Item) → IsPermuted ys (rule ys)) → KeepsPlainly (always (with_rule rule))
 rule_plainly rule p q = always_plainly (with_rule rule) (λ v level. even_plainly (rule v.items).events v (record v { items = (rule v.items).items }) level (p v.items) (permuted_even v.items (rule v.items) (q v.items)))
 
-each_steady : (rule : List Item → Arrangement) → ((ys : List Item) → IsSteady (rule ys)) → (xss : List (List Item)) → IsSteady (each_rewritten rule xss)
+pub each_steady : (rule : List Item → Arrangement) → ((ys : List Item) → IsSteady (rule ys)) → (xss : List (List Item)) → IsSteady (each_rewritten rule xss)
 each_steady rule p [] = tt
 each_steady rule p (xs ∷ xss) = both_steady (rule xs).events (map (shifted_event (length (rule xs).items)) (each_rewritten rule xss).events) (p xs) (shifted_steady (length (rule xs).items) (each_rewritten rule xss).events (each_steady rule p xss))
 

@@ -9,7 +9,7 @@ use Rattle.buffer_parts.specs.Turns.{IsUnturned}
 use Rattle.buffer_parts.specs.Plainly.{ArePlainlyKept, AreSteady}
 use Rattle.buffer_parts.specs.Lemmas.Turns.{unturned_in_turn}
 
-both_plain : (es fs : List Event) → IsPlain es → IsPlain fs → IsPlain (es ++ fs)
+pub both_plain : (es fs : List Event) → IsPlain es → IsPlain fs → IsPlain (es ++ fs)
 both_plain [] fs p q = q
 both_plain (Arrange from order ∷ es) fs p q = absurd p
 both_plain (Merge how from to ∷ es) fs p q = both_plain es fs p q
@@ -27,7 +27,7 @@ both_plain (StrictBreak from to ∷ es) fs p q = both_plain es fs p q
 both_plain (Spread ∷ es) fs p q = both_plain es fs p q
 both_plain (Reset ∷ es) fs p q = both_plain es fs p q
 
-both_give : (es fs : List Event) → AreGiving es → AreGiving fs → AreGiving (es ++ fs)
+pub both_give : (es fs : List Event) → AreGiving es → AreGiving fs → AreGiving (es ++ fs)
 both_give [] fs p q = q
 both_give (Arrange from order ∷ es) fs p q = both_give es fs p q
 both_give (Merge how from to ∷ es) fs p q = both_give es fs p q

@@ -10,9 +10,6 @@ use Rattle.buffer_core.specs.Sides.{Settings, Sides, all_glyphs, fits_joined, wi
 use Rattle.buffer_stages.specs.Ready.{IsReady}
 use Rattle.buffer_stages.specs.Walks.{HasWalked}
 
-pub level_same : (o r : List Item) (es : List Event) (s t : Sides) → HasWalked o r es s t → t.level ≡ s.level
-level_same o r es s t w = ap (λ (st : Settings). st.level) w.settings
-
 pub limit_same : (o r : List Item) (es : List Event) (s t : Sides) → HasWalked o r es s t → t.max_len ≡ s.max_len
 limit_same o r es s t w = ap (λ (v : View). v.max_len) w.view
 

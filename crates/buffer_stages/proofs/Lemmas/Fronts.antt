@@ -20,22 +20,14 @@ use Rattle.buffer_stages.specs.Lemmas.Ordered.{clusters_all_moved}
 use Rattle.buffer_glyphs.specs.Rewriting.{shifted_event}
 use Rattle.buffer_stages.specs.SyllableBuffers.{IsRewritten}
 use Rattle.buffer_stages.specs.Parts.{fronts_moved}
-use Rattle.buffer_stages.specs.Lemmas.Parts.{range_seen, range_size}
-use Rattle.buffer_stages.specs.Lemmas.Rewritings.{whole_cut}
+use Rattle.buffer_stages.specs.Lemmas.Parts.{range_size, between, part_seen}
+use Rattle.buffer_glyphs.specs.Lemmas.Origins.{slice_seen as range_seen}
+use Rattle.buffer_glyphs.specs.Lemmas.Glyphs.{cut_out as whole_cut}
 
 -- moves told by indices that are counted from further back
 pub shift_moves : (n i : ℕ) (ms : List MoveToFront) → map (shifted_event n) (move_events i ms) ≡ move_events (n + i) ms
 shift_moves n i [] = refl
 shift_moves n i (m ∷ ms) = rw (shift_moves n i ms) refl
-
-part_seen : {X Y : Type 0} (v : X → Y) (from to : ℕ) (xs ys : List X) → map v (take from xs ++ ys ++ drop to xs) ≡ take from (map v xs) ++ map v ys ++ drop to (map v xs)
-part_seen v from to xs ys =
-    map-append v (take from xs ++ ys) (drop to xs) ∙ ap (λ zs. zs ++ map v (drop to xs)) (map-append v (take from xs) ys)
-    ∙ ap (λ zs. zs ++ map v ys ++ map v (drop to xs)) (sym (take-map v from xs)) ∙ ap (λ zs. take from (map v xs) ++ map v ys ++ zs) (sym (drop-map v to xs))
-
-between : {X : Type 0} (from to : ℕ) (xs ys : List X) → from ≤ to → to ≤ length xs → length ys ≡ to - from → length (take from xs ++ ys ++ drop to xs) ≡ length xs
-between from to xs ys le inside len =
-    length-append (take from xs ++ ys) (drop to xs) ∙ ap (λ n. n + length (drop to xs)) (length-append (take from xs) ys) ∙ omega (arith, len, le, inside, length-take-le from xs (omega (arith, le, inside)), length-drop to xs)
 
 -- a part, of which some were moved to the front: its moves
 pub part_moves : {X : Type 0} (pair : X → X → Bool) (one : X → Bool) (start end n : ℕ) (xs : List X) → start + n ≤ end → end ≤ length xs

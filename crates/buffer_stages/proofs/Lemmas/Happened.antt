@@ -15,15 +15,10 @@ use Rattle.buffer_glyphs.specs.Parts.{range_of}
 use Rattle.buffer_core.proofs.Told.{stage_flags_ignore_glyph_flags}
 use Rattle.buffer_stages.specs.Ready.{IsReady}
 use Rattle.buffer_stages.specs.Stages.{Happens}
+use Rattle.buffer_stages.specs.Lemmas.Rewritings.{by_settings}
 
 pub nothing_happens : (s : Sides) → IsReady s → Happens [] s s
 nothing_happens s ready = record { view = refl; origins = refl; settings = refl; ready = ready }
-
--- the same events from a buffer with the same settings
-by_settings : (es : List Event) (a b : Sides) → settings_of b ≡ settings_of a → origins_by es b ≡ origins_after (flag_requests_of a) a.level es (origins_of b)
-by_settings es a b e =
-    ap (λ (st : Settings). origins_after (flag_requests_of b) st.level es (origins_of b)) e
-    ∙ ap (λ (st : Settings). origins_after (record { concat = bit_and st.flags.0 64 == 64; tatweel = bit_and st.flags.0 128 == 128; breaks = bit_and st.flags.0 256 == 256 }) a.level es (origins_of b)) e
 
 pub both_happen : (es fs : List Event) (a b c : Sides) → Happens es a b → Happens fs b c → Happens (es ++ fs) a c
 both_happen es fs a b c h k = record {
@@ -54,7 +49,7 @@ call_happens gs any es s new e items from ready =
 
 -- ---- calls of a buffer that stands ready, where an index of the input is one of all glyphs
 
-whole_index : (i : ℕ) (s : Sides) → IsReady s → index_in_all i s ≡ i
+pub whole_index : (i : ℕ) (s : Sides) → IsReady s → index_in_all i s ≡ i
 whole_index i s ready =
     let none = ap (λ (ys : List hb_glyph_info_t). length ys) ready.front in
     omega (arith, none, ready.unread)

@@ -3,9 +3,7 @@ use Rattle.std.proofs.Common.{ℕ, ◌≡◌, ◌-◌, ◌*◌, ◌/◌, ◌%◌
 use Rattle.std.specs.Prelude.{bit_and, bit_or}
 use Rattle.std.proofs.lemmas.Nat.{and_le_l, and_mask, and_mod, and_shr, or_shr}
 use Rattle.buffer_glyphs.specs.Items.{without_flags}
-
-pub without_flags_is : (m : ℕ) → without_flags m ≡ m / 8 * 8
-without_flags_is m = let low = and_mask m 3 in omega (arith, low)
+use Rattle.buffer_core.proofs.Masked.{without_flags_is}
 
 -- the three flags don't tell what the bits above them become
 pub mask_above : (m mask : ℕ) → without_flags (bit_or m mask) ≡ without_flags (bit_or (without_flags m) mask)
@@ -13,12 +11,3 @@ mask_above m mask =
     let high : without_flags m / 8 ≡ m / 8 = (let is = without_flags_is m in omega (arith, is)) in
     let same = or_shr m mask 3 ∙ ap (λ n. bit_or n (mask / 8)) (sym high) ∙ sym (or_shr (without_flags m) mask 3) in
     without_flags_is (bit_or m mask) ∙ ap (λ n. n * 8) same ∙ sym (without_flags_is (bit_or (without_flags m) mask))
-
--- bits that are cleared, above the three flags
-pub high_cleared : (m under : ℕ) → (m - bit_and m under) / 8 ≡ m / 8 - bit_and (m / 8) (under / 8)
-high_cleared m under =
-    let high = and_shr m under 3 in
-    let low = and_mod m under 3 in
-    let few = and_le_l (m % 8) (under % 8) in
-    let some = and_le_l (m / 8) (under / 8) in
-    omega (arith, high, low, few, some)

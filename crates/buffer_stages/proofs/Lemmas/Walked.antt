@@ -18,15 +18,10 @@ use Rattle.buffer_stages.specs.Stages.{IsFollowed}
 use Rattle.buffer_stages.specs.Moves.{with_range_moved, order_of_move}
 use Rattle.buffer_stages.specs.Walks.{HasWalked}
 use Rattle.buffer_stages.specs.Lemmas.Moves.{arranged_moved, moved_front, moved_seen, order_long}
+use Rattle.buffer_stages.specs.Lemmas.Rewritings.{by_settings}
 
 pub nothing_walked : (s : Sides) → s.is_open ≡ true → HasWalked (strip s.behind) (strip s.ahead) [] s s
 nothing_walked s opened = record { behind = refl; ahead = refl; happened = refl; view = refl; settings = refl; opened = opened; unrefused = refl }
-
--- the same events from a buffer with the same settings
-pub by_settings : (es : List Event) (a b : Sides) → settings_of b ≡ settings_of a → origins_by es b ≡ origins_after (flag_requests_of a) a.level es (origins_of b)
-by_settings es a b e =
-    ap (λ (st : Settings). origins_after (flag_requests_of b) st.level es (origins_of b)) e
-    ∙ ap (λ (st : Settings). origins_after (record { concat = bit_and st.flags.0 64 == 64; tatweel = bit_and st.flags.0 128 == 128; breaks = bit_and st.flags.0 256 == 256 }) a.level es (origins_of b)) e
 
 -- one way, and then another
 pub both_walked : (o r p q : List Item) (es fs : List Event) (a b c : Sides) → HasWalked o r es a b → HasWalked p q fs b c → HasWalked p q (es ++ fs) a c

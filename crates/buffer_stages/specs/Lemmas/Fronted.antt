@@ -105,7 +105,7 @@ range_parts from middle to xs le last =
     ap (λ m. take m (drop from xs)) total ∙ take_both n k (drop from xs) ∙ ap (λ ys. take n (drop from xs) ++ take k ys) (drop-drop n from xs ∙ ap (λ m. drop m xs) at)
 
 -- a front, a part that was rewritten, and the rest
-part_of : {X : Type 0} (from to : ℕ) (xs ys : List X) → from ≤ to → to ≤ length xs → length ys ≡ to - from → (take to (take from xs ++ ys ++ drop to xs) ≡ take from xs ++ ys) × (drop to (take from xs ++ ys ++ drop to xs) ≡ drop to xs)
+pub part_of : {X : Type 0} (from to : ℕ) (xs ys : List X) → from ≤ to → to ≤ length xs → length ys ≡ to - from → (take to (take from xs ++ ys ++ drop to xs) ≡ take from xs ++ ys) × (drop to (take from xs ++ ys ++ drop to xs) ≡ drop to xs)
 part_of from to xs ys le fits count =
     let a = length-take-le from xs (omega (arith, le, fits)) in
     let size : length (take from xs ++ ys) ≡ to = omega (arith, length-append (take from xs) ys, a, count, le) in (
@@ -340,11 +340,6 @@ stayed_seen {X = X} {Y = Y} f pair one (x ∷ y ∷ zs) = by_pair (pair (f x) (f
     by_pair true us ws vs zs' e g = e
     by_pair false us ws vs zs' e g = by_one (one (f x)) ws zs' g
 
-pub gathered_seen : {X Y : Type 0} (f : X → Y) (pair : Y → Y → Bool) (one : Y → Bool) (xs : List X) → map f (with_fronts_moved (λ a b. pair (f a) (f b)) (λ a. one (f a)) xs) ≡ with_fronts_moved pair one (map f xs)
-gathered_seen f pair one xs =
-    map-append f (fronts (λ a b. pair (f a) (f b)) (λ a. one (f a)) xs) (elements_after_fronts (λ a b. pair (f a) (f b)) (λ a. one (f a)) xs)
-    ∙ ap (λ ys. ys ++ map f (elements_after_fronts (λ a b. pair (f a) (f b)) (λ a. one (f a)) xs)) (fronts_seen f pair one xs) ∙ ap (λ ys. fronts pair one (map f xs) ++ ys) (stayed_seen f pair one xs)
-
 pub gathered_after_seen : {X Y : Type 0} (f : X → Y) (pair : Y → Y → Bool) (one : Y → Bool) (n : ℕ) (xs : List X) → map f (with_fronts_moved_after (λ a b. pair (f a) (f b)) (λ a. one (f a)) n xs) ≡ with_fronts_moved_after pair one n (map f xs)
 gathered_after_seen {X = X} f pair one n xs =
     let p : X → X → Bool = λ a b. pair (f a) (f b) in
@@ -377,24 +372,10 @@ two_gathered pair one (x ∷ y ∷ []) d e h = (
 )
 two_gathered pair one (x ∷ y ∷ z ∷ zs) d e h = absurd (omega (arith, e))
 
-pub none_in_front : {X : Type 0} (pair : X → X → Bool) (one : X → Bool) (xs : List X) → length xs ≡ 0 → length (fronts pair one xs) ≡ 0
-none_in_front pair one [] e = refl
-none_in_front pair one (x ∷ xs) e = absurd (omega (arith, e))
-
-pub one_in_front : {X : Type 0} (pair : X → X → Bool) (one : X → Bool) (xs : List X) (d : X) (t : Bool) → length xs ≡ 1 → one (get_or xs 0 d) ≡ t → length (fronts pair one xs) ≡ (if t then 1 else 0)
-one_in_front pair one [] d t e h = absurd (omega (arith, e))
-one_in_front pair one (x ∷ []) d true e h = ap (λ b. length (if b then x ∷ [] else [])) h
-one_in_front pair one (x ∷ []) d false e h = ap (λ b. length (if b then x ∷ [] else [])) h
-one_in_front pair one (x ∷ y ∷ zs) d t e h = absurd (omega (arith, e))
-
 -- ---- alone
 
 abbrev pub no_pair : {X : Type 0} → X → X → Bool
 no_pair x y = false
-
-pub fronts_alone : {X : Type 0} (one : X → Bool) (x : X) (zs : List X) → fronts no_pair one (x ∷ zs) ≡ (if one x then fronts no_pair one zs ++ (x ∷ []) else fronts no_pair one zs)
-fronts_alone one x [] = refl
-fronts_alone one x (y ∷ zs) = refl
 
 pub moves_alone : {X : Type 0} (one : X → Bool) (i : ℕ) (x : X) (zs : List X)
     → moves_to_front no_pair one i (x ∷ zs) ≡ (if one x && nat_lt 0 i then record { passed = i; taken = 1 } ∷ moves_to_front no_pair one (i + 1) zs else moves_to_front no_pair one (i + 1) zs)

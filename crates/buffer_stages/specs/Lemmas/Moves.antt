@@ -4,19 +4,10 @@ use Rattle.std.specs.List.{range_with_len}
 use Rattle.std.proofs.lemmas.List.{drop-drop, length-append, length-drop, length-take-le, take-map, drop-map, map-append}
 use Rattle.std.proofs.lemmas.List.FromFn.{length-range_with_len}
 use Rattle.buffer_glyphs.specs.Origins.{with_range_arranged}
-use Rattle.buffer_lists.specs.Lemmas.Picked.{AreAt, are_all, arranged_as}
-pub use Rattle.buffer_core.specs.RangeMoves.{take_both, take_front, drop_front, part_moved, moved_length, moved_front}
+use Rattle.buffer_lists.specs.Lemmas.Picked.{AreAt, are_all, arranged_as, got_after as got_among, are_both}
+pub use Rattle.buffer_lists.proofs.Carried.{take_sum as take_both}
+pub use Rattle.buffer_core.proofs.RangeMoves.{take_front, drop_front, part_moved, moved_length, moved_front}
 use Rattle.buffer_stages.specs.Moves.{with_range_moved, order_of_move}
-
-pub are_both : {X : Type 0} (all : List X) (is : List ℕ) (zs : List X) (js : List ℕ) (ws : List X) → AreAt all is zs → AreAt all js ws → AreAt all (is ++ js) (zs ++ ws)
-are_both all [] [] js ws h k = k
-are_both all [] (z ∷ zs) js ws h k = absurd h
-are_both all (i ∷ is) [] js ws h k = absurd h
-are_both all (i ∷ is) (z ∷ zs) js ws h k = (h.0, are_both all is zs js ws h.1 k)
-
-got_among : {X : Type 0} (front : List X) (x : X) (xs : List X) → slice_get (front ++ x ∷ xs) (length front) ≡ Some x
-got_among [] x xs = refl
-got_among (y ∷ ys) x xs = got_among ys x xs
 
 -- elements between others, at their indices
 pub are_among : {X : Type 0} (front xs back : List X) → AreAt (front ++ (xs ++ back)) (range_with_len (length front) (length xs)) xs

@@ -14,7 +14,7 @@ use Rattle.buffer_glyphs.specs.Order.{has_number}
 use Rattle.buffer_glyphs.specs.Merges.{least_number, merged_number}
 use Rattle.buffer_glyphs.specs.Origins.{Origin, numbers, cast, added_outside, Manner, Unites, Marks, Keeps, origins_merged_as}
 use Rattle.buffer_glyphs.specs.Lemmas.Numbers.{Has, has_here, has_more, has_left, has_map, map_has}
-use Rattle.buffer_glyphs.specs.Lemmas.Merges.{least_number_is, merged_in}
+use Rattle.buffer_glyphs.specs.Lemmas.Merges.{least_number_is, merged_in, has_least}
 use Rattle.buffer_glyphs.specs.Lemmas.Origins.{number_cast, number_outside, numbers_merged, numbers_marked}
 use Rattle.buffer_glyphs.specs.Origins.{with_range_arranged}
 use Rattle.buffer_glyphs.specs.Levels.{InList, manner}
@@ -25,7 +25,7 @@ use Rattle.buffer_stages.specs.Moves.{MoveToFront, IsGrowing, MovesMergeOnce, al
 use Rattle.buffer_stages.specs.Lemmas.Alone.{merged_alone}
 use Rattle.buffer_stages.specs.Lemmas.Moves.{arranged_moved, moved_length, moved_seen, order_long}
 
-map_alike : {X Y : Type 0} (f g : X → Y) (xs : List X) → ((x : X) → f x ≡ g x) → map f xs ≡ map g xs
+pub map_alike : {X Y : Type 0} (f g : X → Y) (xs : List X) → ((x : X) → f x ≡ g x) → map f xs ≡ map g xs
 map_alike f g [] same = refl
 map_alike f g (x ∷ xs) same = rw (same x, map_alike f g xs same) refl
 
@@ -39,10 +39,6 @@ map_both_among f g h [] same = refl
 map_both_among f g h (o ∷ os) same = rw (same o (has_here o.cluster (numbers os)), map_both_among f g h os (λ p k. same p (has_more o.cluster p.cluster (numbers os) k))) refl
 
 -- ---- ranges of the same numbers
-
-has_least : (n : ℕ) (range : List ℕ) → Has range n → Has range (least_number range)
-has_least n [] h = cc
-has_least n (x ∷ xs) h = (least_number_is x xs).among
 
 least_below : (n : ℕ) (range : List ℕ) → Has range n → least_number range ≤ n
 least_below n [] h = cc
@@ -87,7 +83,7 @@ nested_least range (y ∷ ys) n sub h =
     let down = merged_below range least (has_number range least) refl in
     omega (arith, low, same, high, down)
 
-not_merged : (range : List ℕ) (n : ℕ) → has_number range n ≡ false → merged_number range n ≡ n
+pub not_merged : (range : List ℕ) (n : ℕ) → has_number range n ≡ false → merged_number range n ≡ n
 not_merged range n e = ap (λ t. if t then least_number range else n) e
 
 nested_none : (range ys : List ℕ) (n : ℕ) → has_number range n ≡ false → has_number ys n ≡ false → has_number (map (merged_number range) ys) n ≡ false
@@ -207,7 +203,7 @@ or_swapped true true d = refl
 or_swapped true false d = refl
 or_swapped false b d = refl
 
-numbers_both : (xs ys : List Origin) → numbers (xs ++ ys) ≡ numbers xs ++ numbers ys
+pub numbers_both : (xs ys : List Origin) → numbers (xs ++ ys) ≡ numbers xs ++ numbers ys
 numbers_both xs ys = map-append (λ (o : Origin). o.cluster) xs ys
 
 has_three : (xs ys zs : List Origin) (n : ℕ) → has_number (numbers (xs ++ (ys ++ zs))) n ≡ (has_number (numbers xs) n || (has_number (numbers ys) n || has_number (numbers zs) n))
@@ -444,7 +440,7 @@ merged_again m b n k os le fits =
 
 -- ---- moves to one index, each of a range as long as those before it or longer
 
-merged_length : (m : Manner) (from to : ℕ) (os : List Origin) → length (origins_merged_as m from to os) ≡ length os
+pub merged_length : (m : Manner) (from to : ℕ) (os : List Origin) → length (origins_merged_as m from to os) ≡ length os
 merged_length Unites from to os = length-map os (λ (o : Origin). cast (merged_number (range_of from to (numbers os)) o.cluster) 0 o)
 merged_length Marks from to os =
     let n : Origin → ℕ = λ o. o.cluster in

@@ -26,7 +26,8 @@ use Rattle.buffer_stages.specs.Rewriting.{within}
 use Rattle.buffer_stages.specs.SyllableBuffers.{IsRewritten}
 use Rattle.buffer_stages.specs.Parts.{item_with_features, glyph_masked, items_with_features, first_to_back}
 use Rattle.buffer_stages.specs.Lemmas.Shifts.{shift_events}
-use Rattle.buffer_stages.specs.Lemmas.Rewritings.{whole_cut}
+use Rattle.buffer_glyphs.specs.Lemmas.Origins.{slice_seen as range_seen}
+use Rattle.buffer_glyphs.specs.Lemmas.Glyphs.{cut_out as whole_cut}
 
 -- ---- ranges of ranges
 
@@ -173,25 +174,22 @@ item_masked_is bits g = rw (without_again g.mask bits) refl
 pub origin_masked_is : (bits : ℕ) (g : hb_glyph_info_t) → origin_of (glyph_masked bits g) ≡ origin_of g
 origin_masked_is bits g = rw (flags_again g.mask bits) refl
 
-items_masked : (bits : ℕ) (gs : List hb_glyph_info_t) → strip (map (glyph_masked bits) gs) ≡ map (item_with_features bits) (strip gs)
+pub items_masked : (bits : ℕ) (gs : List hb_glyph_info_t) → strip (map (glyph_masked bits) gs) ≡ map (item_with_features bits) (strip gs)
 items_masked bits [] = refl
 items_masked bits (g ∷ gs) = rw (without_again g.mask bits, items_masked bits gs) refl
 
-origins_masked : (bits : ℕ) (gs : List hb_glyph_info_t) → origins (map (glyph_masked bits) gs) ≡ origins gs
+pub origins_masked : (bits : ℕ) (gs : List hb_glyph_info_t) → origins (map (glyph_masked bits) gs) ≡ origins gs
 origins_masked bits [] = refl
 origins_masked bits (g ∷ gs) = rw (flags_again g.mask bits, origins_masked bits gs) refl
 
 -- ---- a part whose glyphs were written, one for each
 
-part_seen : {X Y : Type 0} (v : X → Y) (from to : ℕ) (xs ys : List X) → map v (take from xs ++ ys ++ drop to xs) ≡ take from (map v xs) ++ map v ys ++ drop to (map v xs)
+pub part_seen : {X Y : Type 0} (v : X → Y) (from to : ℕ) (xs ys : List X) → map v (take from xs ++ ys ++ drop to xs) ≡ take from (map v xs) ++ map v ys ++ drop to (map v xs)
 part_seen v from to xs ys =
     map-append v (take from xs ++ ys) (drop to xs) ∙ ap (λ zs. zs ++ map v (drop to xs)) (map-append v (take from xs) ys)
     ∙ ap (λ zs. zs ++ map v ys ++ map v (drop to xs)) (sym (take-map v from xs)) ∙ ap (λ zs. take from (map v xs) ++ map v ys ++ zs) (sym (drop-map v to xs))
 
-pub range_seen : {X Y : Type 0} (v : X → Y) (from to : ℕ) (xs : List X) → map v (slice_range xs from to) ≡ slice_range (map v xs) from to
-range_seen v from to xs = sym (take-map v (to - from) (drop from xs)) ∙ ap (take (to - from)) (sym (drop-map v from xs))
-
-between : {X : Type 0} (from to : ℕ) (xs ys : List X) → from ≤ to → to ≤ length xs → length ys ≡ to - from → length (take from xs ++ ys ++ drop to xs) ≡ length xs
+pub between : {X : Type 0} (from to : ℕ) (xs ys : List X) → from ≤ to → to ≤ length xs → length ys ≡ to - from → length (take from xs ++ ys ++ drop to xs) ≡ length xs
 between from to xs ys le inside len =
     length-append (take from xs ++ ys) (drop to xs) ∙ ap (λ n. n + length (drop to xs)) (length-append (take from xs) ys) ∙ omega (arith, len, le, inside, length-take-le from xs (omega (arith, le, inside)), length-drop to xs)
 

@@ -14,16 +14,10 @@ use Rattle.buffer_stages.specs.Lemmas.Written.{happened_followed}
 use Rattle.buffer_glyphs.specs.Rewriting.{Arrangement, eventless_arrangement, shifted_event, beside, and_arranged}
 use Rattle.buffer_stages.specs.SyllableBuffers.{IsRewritten, with_rule}
 use Rattle.buffer_stages.specs.Lemmas.Shifts.{shift_events, shift_none}
+use Rattle.buffer_glyphs.specs.Lemmas.Glyphs.{cut_out as whole_cut}
+use Rattle.buffer_stages.specs.Lemmas.Fronted.{part_of as middle}
 
 -- ---- lists of which a part was put in
-
--- what stands up to the end of the part, and what after it
-pub middle : {X : Type 0} (from to : ℕ) (xs ys : List X) → from ≤ to → to ≤ length xs → length ys ≡ to - from
-    → (take to (take from xs ++ ys ++ drop to xs) ≡ take from xs ++ ys) × (drop to (take from xs ++ ys ++ drop to xs) ≡ drop to xs)
-middle from to xs ys le inside len =
-    let front = take from xs ++ ys in
-    let n : length front ≡ to = length-append (take from xs) ys ∙ omega (arith, len, le, inside, length-take-le from xs (omega (arith, le, inside))) in
-    (ap (λ m. take m (front ++ drop to xs)) (sym n) ∙ take-append_seam front (drop to xs), ap (λ m. drop m (front ++ drop to xs)) (sym n) ∙ drop-append_seam front (drop to xs))
 
 pub behind : {X : Type 0} (mid to : ℕ) (xs : List X) → mid ≤ to → drop to xs ≡ drop (to - mid) (drop mid xs)
 behind mid to xs le = let n : to ≡ mid + (to - mid) = omega (arith, le) in ap (λ m. drop m xs) n ∙ sym (drop-drop (to - mid) mid xs)
@@ -63,7 +57,7 @@ rewritten_count r from to a b le inside len f =
 -- ---- one rewriting after another
 
 -- the same events from a buffer with the same settings
-by_settings : (es : List Event) (a b : Sides) → settings_of b ≡ settings_of a → origins_by es b ≡ origins_after (flag_requests_of a) a.level es (origins_of b)
+pub by_settings : (es : List Event) (a b : Sides) → settings_of b ≡ settings_of a → origins_by es b ≡ origins_after (flag_requests_of a) a.level es (origins_of b)
 by_settings es a b e =
     ap (λ (st : Settings). origins_after (flag_requests_of b) st.level es (origins_of b)) e
     ∙ ap (λ (st : Settings). origins_after (record { concat = bit_and st.flags.0 64 == 64; tatweel = bit_and st.flags.0 128 == 128; breaks = bit_and st.flags.0 256 == 256 }) a.level es (origins_of b)) e
@@ -121,12 +115,6 @@ pub rewritten_next : (r : Arrangement) (rule : List Item → Arrangement) (from 
 rewritten_next r rule from to a b c le inside len f g =
     let P : List Item → Type 0 = λ xs. IsRewritten (rule xs) from to b c in
     rewritten_then r rule from to a b c le inside len f (subst P (rewritten_slice r from to a b le inside len f) g)
-
--- a list is what is before a part, the part, and what is after it
-pub whole_cut : {X : Type 0} (from to : ℕ) (xs : List X) → from ≤ to → take from xs ++ slice_range xs from to ++ drop to xs ≡ xs
-whole_cut from to xs le =
-    let at : to ≡ from + (to - from) = omega (arith, le) in
-    ap (λ ys. ys ++ drop to xs) (sym (ap (λ k. take k xs) at ∙ take-add from (to - from) xs)) ∙ take-append-drop to xs
 
 -- nothing changed
 pub rewritten_same : (from to : ℕ) (a : Sides) → from ≤ to → IsReady a → IsRewritten (eventless_arrangement (slice_range (items_of a) from to)) from to a a

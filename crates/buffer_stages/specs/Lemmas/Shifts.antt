@@ -3,10 +3,10 @@ use Rattle.std.proofs.Common.{ℕ, ◌≡◌, ◌+◌, List, [], ◌∷◌, map,
 use Rattle.buffer_glyphs.specs.Events.{Event, Merge, MergeGrapheme, Replace, Circle, Delete, Move, Arrange, Sort, Reverse, Break, Concat, Tatweel, StrictBreak, Spread, Reset}
 use Rattle.buffer_glyphs.specs.Rewriting.{shifted_event}
 
-further : (n m i : ℕ) → n + (m + i) ≡ n + m + i
+pub further : (n m i : ℕ) → n + (m + i) ≡ n + m + i
 further n m i = omega arith
 
-shift_event : (n m : ℕ) (e : Event) → shifted_event n (shifted_event m e) ≡ shifted_event (n + m) e
+pub shift_event : (n m : ℕ) (e : Event) → shifted_event n (shifted_event m e) ≡ shifted_event (n + m) e
 shift_event n m (Merge how from to) = rw (further n m from, further n m to) refl
 shift_event n m (MergeGrapheme from to) = rw (further n m from, further n m to) refl
 shift_event n m (Replace at taken given) = rw (further n m at) refl
@@ -28,10 +28,10 @@ pub shift_events : (n m : ℕ) (es : List Event) → map (shifted_event n) (map 
 shift_events n m [] = refl
 shift_events n m (e ∷ es) = rw (shift_event n m e, shift_events n m es) refl
 
-none_more : (n : ℕ) → 0 + n ≡ n
+pub none_more : (n : ℕ) → 0 + n ≡ n
 none_more n = omega arith
 
-shift_by_none : (e : Event) → shifted_event 0 e ≡ e
+pub shift_by_none : (e : Event) → shifted_event 0 e ≡ e
 shift_by_none (Merge how from to) = rw (none_more from, none_more to) refl
 shift_by_none (MergeGrapheme from to) = rw (none_more from, none_more to) refl
 shift_by_none (Replace at taken given) = rw (none_more at) refl

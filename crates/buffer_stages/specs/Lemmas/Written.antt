@@ -45,21 +45,6 @@ same_many gs hs f e = sym (length-map gs item_of) ∙ ap (λ (ys : List Item). l
 pub mapped_becomes : (gs : List hb_glyph_info_t) (s : Sides) (f : Item → Item) → strip gs ≡ map f (items_of s) → origins gs ≡ origins_of s → IsReady s → Becomes (map f (items_of s)) s.positions s (with_refilled gs s)
 mapped_becomes gs s f items from ready = written_becomes gs s (map f (items_of s)) (same_many gs (all_glyphs s) f items) items from ready
 
--- positions that were written
-pub placed_becomes : (ps : List Position) (s : Sides) → length ps ≡ length s.positions → IsReady s → Becomes (items_of s) ps s (with_positions_refilled ps s)
-placed_becomes ps s e ready = record {
-  view = ap (λ qs. record (view_of s) { positions = qs }) (refilled_whole ps s.positions e);
-  origins = refl;
-  settings = refl;
-  ready = record {
-    closed = ready.closed;
-    front = ready.front;
-    unread = ready.unread;
-    placed = ap (λ (qs : List Position). length qs) (refilled_whole ps s.positions e) ∙ e ∙ ready.placed;
-    unrefused = ready.unrefused;
-  };
-}
-
 -- what happens to the origins of the glyphs, beside what becomes of them, is a stage
 pub happened_followed : (es : List Event) (v : View) (stage : Stage) (old new : Sides) → view_of new ≡ v → (state_of new).origins ≡ (origins_after (state_of old).asks old.level es (state_of old).origins)
     → settings_of new ≡ settings_of old → IsReady new → stage (view_of old) ≡ Ok (with_events es v) → IsFollowed stage old new

@@ -85,21 +85,6 @@ one_walked act all k r before random to_random start now next ps end qs at rs to
 
 -- ---- one record, by what its beginning told
 
--- it does nothing
-pub record_skipped : (act : ℕ → Action) (r : SequenceLookupRecord) (ps : List ℕ) (end random : ℕ) (s t : Sides) → RecordBegins r ps (Ok None) s t → Walking (one_record act r (cut_with random s) ps end) (Ok end) ps random s t
-record_skipped act r ps end random s t b =
-    let P : RecordsOutcome → Type 0 = λ w. Walking w (Ok end) ps random s t in
-    let Q : Sides → Type 0 = λ u. Walking (Walks (cut_with random s) ps end []) (Ok end) ps random s u in
-    subst P (sym (b.1 random act end)) (subst Q (sym b.0) (refl, refl, here random s))
-
--- there was no way to its index
-pub record_refused : (act : ℕ → Action) (r : SequenceLookupRecord) (ps rs : List ℕ) (end random after : ℕ) (x : ShapeCause) (s t : Sides) → RecordBegins r ps (Err x) s t → Walking (one_record act r (cut_with random s) ps end) (Err x) rs after s t
-record_refused act r ps rs end random after x s t b = err (one_record act r (cut_with random s) ps end) (λ n. b n random act end)
-  where
-    err : (w : RecordsOutcome) → (x ≢ OutOfMemory → w ≡ Stops x) → Walking w (Err x) rs after s t
-    err (Walks cut qs at es) h = h
-    err (Stops cause) h = h
-
 walking_err : (w : RecordsOutcome) (x : ShapeCause) (rs : List ℕ) (after : ℕ) (s t : Sides) → (x ≢ OutOfMemory → w ≡ Stops x) → Walking w (Err x) rs after s t
 walking_err (Walks cut qs at es) x rs after s t h = h
 walking_err (Stops cause) x rs after s t h = h

@@ -9,8 +9,9 @@ use Rattle.std.proofs.lemmas.List.{map-append}
 use Rattle.buffer_core.specs.Sides.{Sides, items_of}
 use Rattle.buffer_stages.specs.Buffers.{are_glyphs}
 use Rattle.buffer_stages.proofs.Lemmas.Glyphs.{all_of_front}
-use Rattle.layout_gpos.proofs.Lemmas.Read.{number_in}
-use Rattle.layout_match.proofs.Lemmas.Nearest.{item_there, strip_reversed}
+use Rattle.layout_match.proofs.Lemmas.Nearest.{strip_reversed}
+use Rattle.layout_match.proofs.Lemmas.Idle.{number_at as number_in}
+use Rattle.buffer_stages.proofs.Reversed.{got_strip as item_there}
 
 all_turned : {X : Type 0} (p : X → Bool) (xs ys : List X) → list_all p xs ≡ true → list_all p ys ≡ true → list_all p (reverse_aux xs ys) ≡ true
 all_turned p [] ys e f = f

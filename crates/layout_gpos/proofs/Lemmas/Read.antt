@@ -13,6 +13,7 @@ use Rattle.layout_match.specs.declared.search.match_t.TheVariants.{MATCH, SKIP, 
 use Rattle.layout_match.specs.Matches.{by_answer, nearest, nearest_from}
 use Rattle.buffer_stages.specs.Buffers.{are_glyphs}
 use Rattle.buffer_stages.proofs.Lemmas.Glyphs.{all_of_back}
+use Rattle.layout_match.proofs.Lemmas.Idle.{number_at as number_in}
 
 -- ---- a search that fails reads no further than the list goes
 
@@ -33,22 +34,6 @@ read_inside ask from end gs le e =
     omega (arith, far, len, same, le)
 
 -- ---- numbers
-
-pub number_in : (gs : List hb_glyph_info_t) (k : ℕ) (g : hb_glyph_info_t) → slice_get gs k ≡ Some g → are_glyphs (strip gs) ≡ true → g.glyph_id ≤ 65535
-number_in [] k g at e = cc
-number_in (h ∷ gs) zero g at e =
-    let same : h ≡ g = cc in
-    let here : nat_le h.glyph_id 65535 ≡ true = grind (arith, common_steps, e) in
-    rw (← same) (grind (arith, nat_tests, here))
-number_in (h ∷ gs) (suc k) g at e =
-    let rest : are_glyphs (strip gs) ≡ true = grind (arith, common_steps, e) in
-    number_in gs k g at rest
-
-pub number_beyond : (s : Sides) (k : ℕ) (g : hb_glyph_info_t) → slice_get s.ahead k ≡ Some g → are_glyphs (items_of s) ≡ true → g.glyph_id ≤ 65535
-number_beyond s k g at e = number_in s.ahead k g at (all_of_back (λ (x : Item). nat_le x.number 65535) (strip s.behind) (strip s.ahead) (ap are_glyphs (sym (map-append item_of s.behind s.ahead)) ∙ e))
-
-pub item_at : (gs : List hb_glyph_info_t) (k : ℕ) (g : hb_glyph_info_t) → slice_get gs k ≡ Some g → slice_get (strip gs) k ≡ Some (item_of g)
-item_at gs k g at = slice_get-map item_of gs k ∙ ap (option_map item_of) at
 
 -- ---- what is found stands no earlier than where the search began
 

@@ -10,6 +10,7 @@ use Rattle.buffer_stages.specs.Actions.{Action, Acts, Cut, Outcome, Passes, Refu
 use Rattle.buffer_stages.specs.Performing.{IsPerformed, cut_with}
 use Rattle.buffer_stages.proofs.Lemmas.Performed.{ArePassed, passed_all, passed_next, passes_nothing}
 use Rattle.layout_gsub.specs.Passing.{ArePassing}
+use Rattle.layout_match.proofs.Lemmas.Met.{starts}
 
 -- a rule that is there
 pub is_there : {R : Type 0} (all : List R) (k : ℕ) (x : R) → slice_get all k ≡ Some x → (k < length all) × (x ≡ get_or all k x)
@@ -21,14 +22,6 @@ none_there all k none = elim (slice_get_cases all k).1 [
   | inl there ↦ let some = there.2 in cc
   | inr past ↦ past.0
 ]
-
-starts : (gs : List hb_glyph_info_t) (g : hb_glyph_info_t) → slice_get gs 0 ≡ Some g → (rest : List Item) × (strip gs ≡ item_of g ∷ rest)
-starts [] g at = cc
-starts (h ∷ gs) g at = let same : h ≡ g = cc in (strip gs, ap (λ k. item_of k ∷ strip gs) same)
-
--- a rule passes at the glyph at the cursor
-pub passes_there : (act : Action) (r : ℕ) (s : Sides) (g : hb_glyph_info_t) → slice_get s.ahead 0 ≡ Some g → PassesAt act (item_of g) → act (cut_with r s) ≡ Passes []
-passes_there act r s g at passes = let first = starts s.ahead g at in passes (cut_with r s) first.0 first.1
 
 -- one more
 one_more : {R : Type 0} (act : R → Action) (all : List R) (r k from next : ℕ) (start now : Sides) → ArePassing act all from next (cut_with r now) → from ≤ k → k < next → ArePassed act all (drop k all) r start now

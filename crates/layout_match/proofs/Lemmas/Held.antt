@@ -89,7 +89,7 @@ both_zero u f m e = (same_from_bits (bit_and u m) 0 (λ i. (at i).0), same_from_
         let second = bit_at_and f m i in
         (omega (arith, all, first, zero_there), omega (arith, all, second, zero_there))
 
-zero_is : (n : ℕ) → (n == 0) ≡ true → n ≡ 0
+pub zero_is : (n : ℕ) → (n == 0) ≡ true → n ≡ 0
 zero_is n e = grind (arith, nat_tests, e)
 
 -- a mask shares a bit with more bits where it does with some of them

@@ -18,7 +18,7 @@ use Rattle.layout_match.proofs.Lemmas.Held.{passes_uncovered}
 use Rattle.layout_match.proofs.Lemmas.Untouched.{rule_passes, unmet_passes}
 
 -- the number of a glyph at an index
-number_at : (gs : List hb_glyph_info_t) (k : ℕ) (g : hb_glyph_info_t) → slice_get gs k ≡ Some g → are_glyphs (strip gs) ≡ true → g.glyph_id ≤ 65535
+pub number_at : (gs : List hb_glyph_info_t) (k : ℕ) (g : hb_glyph_info_t) → slice_get gs k ≡ Some g → are_glyphs (strip gs) ≡ true → g.glyph_id ≤ 65535
 number_at [] k g at e = cc
 number_at (h ∷ gs) zero g at e =
     let same : h ≡ g = cc in
@@ -35,7 +35,7 @@ pub none_first : (test : Item → Bool) (xs : List Item) → list_any test (take
 none_first test [] = refl
 none_first test (x ∷ xs) = refl
 
-or_none : (a b : Bool) → a ≡ false → b ≡ false → (a || b) ≡ false
+pub or_none : (a b : Bool) → a ≡ false → b ≡ false → (a || b) ≡ false
 or_none false false e f = refl
 or_none false true e f = cc
 or_none true b e f = cc

@@ -34,11 +34,11 @@ met_glyph a act r s some applies =
 
 -- ---- a rule that passes at the glyph at the cursor need not be tried
 
-starts : (gs : List hb_glyph_info_t) (g : hb_glyph_info_t) → slice_get gs 0 ≡ Some g → (rest : List Item) × (strip gs ≡ item_of g ∷ rest)
+pub starts : (gs : List hb_glyph_info_t) (g : hb_glyph_info_t) → slice_get gs 0 ≡ Some g → (rest : List Item) × (strip gs ≡ item_of g ∷ rest)
 starts [] g at = cc
 starts (h ∷ gs) g at = let same : h ≡ g = cc in (strip gs, ap (λ k. item_of k ∷ strip gs) same)
 
-passes_there : (act : Action) (r : ℕ) (s : Sides) (g : hb_glyph_info_t) → slice_get s.ahead 0 ≡ Some g → PassesAt act (item_of g) → act (cut_with r s) ≡ Passes []
+pub passes_there : (act : Action) (r : ℕ) (s : Sides) (g : hb_glyph_info_t) → slice_get s.ahead 0 ≡ Some g → PassesAt act (item_of g) → act (cut_with r s) ≡ Passes []
 passes_there act r s g at passes = let first = starts s.ahead g at in passes (cut_with r s) first.0 first.1
 
 -- a lookup whose rule passes at a glyph that isn't covered

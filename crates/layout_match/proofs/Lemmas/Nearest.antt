@@ -9,16 +9,12 @@ use Rattle.layout_match.specs.declared.search.match_t.{match_t}
 use Rattle.layout_match.specs.declared.search.match_t.TheVariants.{MATCH, SKIP, NOT_MATCH}
 use Rattle.layout_match.specs.Matches.{by_answer, nearest_from}
 use Rattle.buffer_glyphs.specs.Lemmas.EventParts.{map-reverse}
-
-some_left : {X : Type 0} (xs : List X) (k : ℕ) (x : X) → slice_get xs k ≡ Some x → drop k xs ≡ x ∷ drop (k + 1) xs
-some_left xs k x at = drop_more xs k x (slice_get_within xs k x at) ∙ ap (λ y. y ∷ drop (k + 1) xs) (get_or_from_slice_get xs k x x at)
+use Rattle.buffer_stages.proofs.Reversed.{got_strip as item_there}
+use Rattle.buffer_stages.proofs.Lemmas.Elements.{split_at as some_left}
 
 -- what comes of the items from one on
 pub nearest_there : (ask : Item → match_t) (at : ℕ) (xs : List Item) (x : Item) (r : match_t) → slice_get xs at ≡ Some x → r ≡ ask x → nearest_from ask at xs ≡ by_answer r at (nearest_from ask (at + 1) xs)
 nearest_there ask at xs x r there scratch_flags = rw (some_left xs at x there, scratch_flags) refl
-
-pub item_there : (gs : List hb_glyph_info_t) (at : ℕ) (g : hb_glyph_info_t) → slice_get gs at ≡ Some g → slice_get (strip gs) at ≡ Some (item_of g)
-item_there gs at g there = slice_get-map item_of gs at ∙ ap (option_map item_of) there
 
 pub taken_there : (ask : Item → match_t) (at : ℕ) (gs : List hb_glyph_info_t) (g : hb_glyph_info_t) (r : match_t) → slice_get gs at ≡ Some g → r ≡ ask (item_of g) → r ≡ MATCH → nearest_from ask at (strip gs) ≡ Ok at
 taken_there ask at gs g r there scratch_flags e = nearest_there ask at (strip gs) (item_of g) r (item_there gs at g there) scratch_flags ∙ ap (λ a. by_answer a at (nearest_from ask (at + 1) (strip gs))) e

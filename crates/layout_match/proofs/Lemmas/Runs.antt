@@ -15,6 +15,7 @@ use Rattle.layout_match.specs.Skipping.{PassesAll, PassesAt}
 use Rattle.layout_match.specs.Steps.{IsIdleRun, IsIdleRunTooLong}
 use Rattle.layout_match.specs.Trying.{trials, after_outcome, meets, met_first, outcome_past_item}
 use Rattle.layout_match.proofs.Lemmas.Idle.{idle_all}
+use Rattle.buffer_core.proofs.Kept.{moved_all as run_moved_all}
 
 -- ---- at cuts
 
@@ -80,9 +81,6 @@ too_many_items act v n start front (x ∷ xs) rest passes some full =
     by_room true room again = past_one act v (length xs + n) start front (xs ++ rest) x (passes.0, tt) room ∙ again room
 
 -- ---- at buffers
-
-pub run_moved_all : (k : ℕ) (s : Sides) → all_glyphs (after_next_glyphs k s) ≡ all_glyphs s
-run_moved_all k s = append_assoc s.behind (take k s.ahead) (drop k s.ahead) ∙ ap (λ gs. s.behind ++ gs) (take-append-drop k s.ahead)
 
 -- the items stay
 pub run_items : (act : Action) (s new : Sides) → IsIdleRun act s new → items_of new ≡ items_of s

@@ -143,11 +143,3 @@ step_passed act before after acted s mid new fails lt opened_before d room is =
 
 pub given_up : (act : Action) (before : ℕ) (s : Sides) (cause : ShapeCause) → 0 < length s.ahead → act (cut_with before s) ≡ Refuses cause → IsGivenUp act before s cause
 given_up act before s cause lt e = λ v n. going_on act v n before s lt ∙ ap (λ o. after_outcome (outcome_past_item o (cut_with before s)) (trials act v n) v (cut_with before s)) e
-
-pub given_up_full : (act : Action) (before after : ℕ) (acted : Bool) (s mid : Sides) → acted ≡ false → 0 < length s.ahead → s.is_open ≡ true → IsPerformed (act (cut_with before s)) acted before after s mid → fits_next 1 mid ≡ false → IsGivenUp act before s TooLong
-given_up_full act before after acted s mid fails lt opened_before d full =
-    let D : Bool → Type 0 = λ b. IsPerformed (act (cut_with before s)) b before after s mid in
-    let p = passes_of act before after s mid (act (cut_with before s)) refl (subst D fails d) in
-    let c = cut_with before s in
-    let over : outcome_past_item (act c) c ≡ Refuses TooLong = ap (λ o. outcome_past_item o c) p.1 ∙ rw (room_of before p.0 s mid opened_before p.3 ∙ full) refl in
-    λ v n. going_on act v n before s lt ∙ ap (λ o. after_outcome o (trials act v n) v c) over

@@ -4,12 +4,12 @@ use Rattle.std.specs.Prelude.{nat_abs, int_le, int_lt}
 use Rattle.std.proofs.lemmas.Bool.Decides.{nat_tests}
 use Rattle.layout_offsets.specs.Links.{link_target}
 
-both_tests : (a b : Bool) (m j : ℕ) → (if a && b then Some m else None) ≡ Some j → (b ≡ true) × (m ≡ j)
+pub both_tests : (a b : Bool) (m j : ℕ) → (if a && b then Some m else None) ≡ Some j → (b ≡ true) × (m ≡ j)
 both_tests true true m j e = (refl, cc)
 both_tests true false m j e = cc
 both_tests false b m j e = cc
 
-inside_is : (n : ℕ) (t : ℤ) (j : ℕ) → (if int_le (pos 0) t && int_lt t (pos n) then Some (nat_abs t) else None) ≡ Some j → (j < n) × (pos j ≡ t)
+pub inside_is : (n : ℕ) (t : ℤ) (j : ℕ) → (if int_le (pos 0) t && int_lt t (pos n) then Some (nat_abs t) else None) ≡ Some j → (j < n) × (pos j ≡ t)
 inside_is n (pos m) j e =
     let both = both_tests (int_le (pos 0) (pos m)) (int_lt (pos m) (pos n)) m j e in
     let less : m < n = grind (arith, nat_tests, both.0) in

@@ -23,7 +23,7 @@ pub turned_goes : (d : Direction) (stop count done i j : ℕ) (new : Position) (
 turned_goes d stop count done i j new ps lt e =
     turned_step d stop (count - done) (count - (done + 1)) i new ps (omega (arith, lt)) ∙ ap (λ (o : Option ℕ). turned_beyond d (chain_reversed_from d stop (count - (done + 1))) (position_at i ps) o (set ps i new)) e
 
-unless_there : (stop j : ℕ) (o : Option ℕ) → unless_at stop o ≡ Some j → o ≡ Some j
+pub unless_there : (stop j : ℕ) (o : Option ℕ) → unless_at stop o ≡ Some j → o ≡ Some j
 unless_there stop j None e = e
 unless_there stop j (Some k) e = by_stop (k == stop) e
   where

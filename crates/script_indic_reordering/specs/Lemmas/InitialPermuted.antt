@@ -14,7 +14,6 @@ use Rattle.buffer_stages.specs.Parts.{item_with_features}
 use Rattle.buffer_stages.specs.SyllableLaws.{IsPermuted, numbers_of}
 use Rattle.buffer_stages.specs.Lemmas.Numbers.{same_numbers, then_permutes, within_permutes}
 use Rattle.buffer_stages.specs.Lemmas.Permuted.{permutes_each_syllable}
-use Rattle.buffer_stages.specs.Lemmas.Rewritings.{whole_cut}
 use Rattle.buffer_stages.specs.Lemmas.Sorted.{sorted_permutes, turned_permutes}
 use Rattle.script_indic_reordering.specs.declared.script.RephMode.{RephMode}
 use Rattle.script_indic_reordering.specs.declared.script.IndicMasks.{IndicMasks}
@@ -23,6 +22,7 @@ use Rattle.script_indic_reordering.specs.Glyphs.{is_matra}
 use Rattle.script_indic_reordering.specs.Initial.{all_led, all_placed, signs_attached, attached_position, base_in, base_placed, before_zwnj, cleared_before_zwnj, without_bits_if, first_left, has_two_matras, initial_reordered, all_led_after, led_item, with_led_position, leads, left_count, masked_by_position, masks_set, matras_reversed, led_position, pref_masked, pref_pair, reph_in, reph_placed}
 use Rattle.script_indic_reordering.specs.Masks.{after_masked, own_bits, pair_masked, part_masked}
 use Rattle.script_indic_reordering.specs.Orders.{InitialPermutes, if_reordered, initial_syllable}
+use Rattle.buffer_glyphs.specs.Lemmas.Glyphs.{cut_out as whole_cut}
 
 -- ---- positions
 

@@ -12,7 +12,6 @@ use Rattle.buffer_stages.specs.Rewriting.{within}
 use Rattle.buffer_stages.specs.Ordering.{groups_reversed, auxiliary_order}
 use Rattle.buffer_stages.specs.Parts.{item_with_features}
 use Rattle.buffer_stages.specs.Lemmas.Parts.{within_size}
-use Rattle.buffer_stages.specs.Lemmas.Rewritings.{whole_cut}
 use Rattle.buffer_stages.specs.Lemmas.Sorted.{reversed_size, sorted_size}
 use Rattle.script_indic_reordering.specs.declared.script.RephMode.{RephMode}
 use Rattle.script_indic_reordering.specs.declared.script.IndicMasks.{IndicMasks}
@@ -21,6 +20,7 @@ use Rattle.script_indic_reordering.specs.Glyphs.{is_left, is_left_matra, is_matr
 use Rattle.script_indic_reordering.specs.Initial.{all_led, all_placed, signs_attached, attached_position, base_in, base_placed, cleared_before_zwnj, first_left, has_two_matras, initial_reordered, all_led_after, left_count, masked_by_position, masks_set, matras_reversed, pref_masked, pref_pair, reph_in, reph_placed}
 use Rattle.script_indic_reordering.specs.Masks.{after_masked, own_bits, pair_masked, part_masked}
 use Rattle.script_indic_reordering.specs.Orders.{if_reordered, initial_syllable}
+use Rattle.buffer_glyphs.specs.Lemmas.Glyphs.{cut_out as whole_cut}
 
 -- ---- positions
 

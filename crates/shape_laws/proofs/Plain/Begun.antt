@@ -29,6 +29,7 @@ use Rattle.shape_laws.specs.PlainTexts.{IsPlainShaping, RunsForth}
 use Rattle.shape_laws.proofs.Plain.Texts.{Are, IsPlain, Leads, Stands, always_leads, are_many, are_mapped, both_lead, last_leads}
 use Rattle.buffer_properties.specs.Characters.{is_mark_number}
 use Rattle.shape_laws.proofs.Plain.Words.{word_alone, word_mark}
+use Rattle.shape_laws.proofs.Begun.{no_circle, no_attachment, stays, none_attached as told_clear}
 
 -- a character as it was added
 pub record Given (font : FaceParts) (u : ℕ) (x : Item) : Type 0 where
@@ -86,23 +87,6 @@ are_prepared font t before [] (x ∷ xs) a = absurd a
 are_prepared font t before (u ∷ us) [] a = absurd a
 are_prepared font t before (u ∷ us) (x ∷ xs) a = (prepared_as font t (continues t before x.number) u x a.0, are_prepared font t (Some (next_before t before x.number)) us xs a.1)
 
-no_attachment : (a b c : Bool) → bit_and (bit_if a 1 + (bit_if b 2 + bit_if c 16)) 8 ≡ 0
-no_attachment true true true = refl
-no_attachment true true false = refl
-no_attachment true false true = refl
-no_attachment true false false = refl
-no_attachment false true true = refl
-no_attachment false true false = refl
-no_attachment false false true = refl
-no_attachment false false false = refl
-
--- characters do not determine attachments
-told_clear : (xs : List Item) (scratch_flags : ℕ) → bit_and scratch_flags 8 ≡ 0 → bit_and (scratch_flags_of_items xs scratch_flags) 8 ≡ 0
-told_clear [] scratch_flags h = h
-told_clear (x ∷ xs) scratch_flags h =
-    let u = x.number in
-    told_clear xs (bit_or scratch_flags (scratch_flags_of u)) (and_or_apart 8 scratch_flags (scratch_flags_of u) (no_attachment (nat_le 0x80 u) (is_default_ignorable_character u) (u == 0x034F)) ∙ h)
-
 properties_stand : (font : FaceParts) (t : Tables) (us : List ℕ) (v : View) → Stands (Given font) us v → Stands (Prepared font) us (with_properties t v).view
 properties_stand font t us v s = record { items = are_prepared font t None us v.items s.items; line = s.line; scratch_flags = told_clear v.items v.scratch_flags s.scratch_flags; room = s.room }
 
@@ -116,11 +100,6 @@ first_unmarked font (u ∷ us) (x ∷ xs) a =
     let p = a.0 in
     ap (λ w. is_mark_number (bit_and w 0x1F)) p.word ∙ word_mark p.is_continuation u p.plain.shown ∙ p.plain.unmarked
 
-no_circle : (a c d : Bool) → c ≡ false → ((a && c) && d) ≡ false
-no_circle a true d e = cc
-no_circle true false d e = refl
-no_circle false false d e = refl
-
 abbrev circle_if : Bool → Tables → Stage
 circle_if b t v = if b then with_circle t v else as_it_is v
 
@@ -132,17 +111,6 @@ circle_leads : (font : FaceParts) (t : Tables) (flags : BufferFlags) (context us
 circle_leads font t flags context us v s = (with_events [] v, (uncircled font t flags context us v s, s))
 
 -- ---- the order of the writing
-
-stays : (b : Bool) (d : Direction) → runs_against LeftToRight d ≡ false → runs_against LeftToRight (with_numbers b LeftToRight d) ≡ false
-stays b RightToLeft h = cc
-stays true Invalid h = refl
-stays true LeftToRight h = refl
-stays true TopToBottom h = refl
-stays true BottomToTop h = refl
-stays false Invalid h = refl
-stays false LeftToRight h = refl
-stays false TopToBottom h = refl
-stays false BottomToTop h = refl
 
 not_turned : (script : Option Script) (d : Direction) (xs : List Item) → RunsForth script → d ≡ LeftToRight → is_reversed script d xs ≡ false
 not_turned script d xs w e =

@@ -66,7 +66,7 @@ positioned_at font u x b =
 
 -- ---- no space, no mark, nothing ignorable
 
-kept_if : (b : Bool) (p q : Position) → b ≡ false → (if b then q else p) ≡ p
+pub kept_if : (b : Bool) (p q : Position) → b ≡ false → (if b then q else p) ≡ p
 kept_if true p q e = cc
 kept_if false p q e = refl
 

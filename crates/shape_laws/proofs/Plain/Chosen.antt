@@ -47,6 +47,7 @@ use Rattle.shape_laws.specs.PlainTexts.{IsPlainShaping, glyph_of}
 use Rattle.shape_laws.proofs.Plain.Texts.{Are, IsPlain, Leads, Stands, always_leads, are_many, are_mapped, both_lead, either, its_glyph, last_leads, leads_as, rests}
 use Rattle.shape_laws.proofs.Plain.Begun.{Ordered}
 use Rattle.shape_laws.proofs.Plain.Words.{word_mark}
+use Rattle.shape_laws.proofs.Chosen.{rotated_view}
 
 -- a character for which a glyph was chosen
 pub record Chosen (font : FaceParts) (u : ℕ) (x : Item) : Type 0 where
@@ -196,9 +197,6 @@ preprocessed_same p plain v = ap (λ (r : ShaperRules). r.preprocesses p.font p.
 
 pub masks_same : (p : Shaping) → IsPlainShaping p → (v : View) → shaper_masks_set p v ≡ as_it_is v
 masks_same p plain v = ap (λ (r : ShaperRules). r.sets_masks p.font p.tables p.settings v) plain.rules
-
-rotated_view : (t : Tables) (font : FaceParts) (d : Direction) (mask : ℕ) (b : Bool) (v : View) → d ≡ LeftToRight → (with_rotated_characters t font d mask b v).view ≡ v
-rotated_view t font d mask b v e = let P : Direction → Type 0 = λ c. (with_rotated_characters t font c mask b v).view ≡ v in subst P (sym e) refl
 
 pub chosen_leads : (p : Shaping) (us : List ℕ) → IsPlainShaping p → Leads (Stands (Ordered p.font) us) (Placed (Chosen p.font) (zero_positions (length us)) us) (characters_chosen p)
 unfolding characters_chosen

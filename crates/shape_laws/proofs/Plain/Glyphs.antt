@@ -54,7 +54,7 @@ not_nonspacing font u w p e =
     let mark : is_mark_number (bit_and w 0x1F) ≡ false = ap (λ n. is_mark_number (bit_and n 0x1F)) e ∙ word_mark false u p.shown ∙ p.unmarked in
     last_of _ _ _ mark
 
-unchanged_if : (b : Bool) (x y : Item) → b ≡ false → (if b then y else x) ≡ x
+pub unchanged_if : (b : Bool) (x y : Item) → b ≡ false → (if b then y else x) ≡ x
 unchanged_if true x y e = cc
 unchanged_if false x y e = refl
 

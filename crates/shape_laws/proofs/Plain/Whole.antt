@@ -26,19 +26,11 @@ use Rattle.shape_laws.specs.PlainTexts.{IsPlainShaping, PlainTextsShowGlyphs, ch
 use Rattle.shape_laws.proofs.Plain.Texts.{Are, Leads, Stands, always_leads, are_same, both_lead, last_leads, leads_as, plain_facts, rests}
 use Rattle.shape_laws.proofs.Plain.Begun.{Given, IsText, Ordered, begun_leads}
 use Rattle.shape_laws.proofs.Plain.Chosen.{Chosen, Placed, chosen_leads, masks_lead, ranges_lead}
-use Rattle.shape_laws.proofs.Plain.Glyphs.{Based, Shown, mapped_stand, substituted_leads, taken_leads}
-use Rattle.shape_laws.proofs.Plain.CharacterPositions.{AtPositions, none_moved, not_ignorable, positioned_leads}
+use Rattle.shape_laws.proofs.Plain.Glyphs.{Based, Shown, mapped_stand, substituted_leads, taken_leads, unchanged_if as item_if}
+use Rattle.shape_laws.proofs.Plain.CharacterPositions.{AtPositions, none_moved, not_ignorable, positioned_leads, kept_if as position_if}
 use Rattle.shape_laws.proofs.Plain.Words.{word_unmarked}
 
 -- ---- the end
-
-item_if : (b : Bool) (x y : Item) → b ≡ false → (if b then y else x) ≡ x
-item_if true x y e = cc
-item_if false x y e = refl
-
-position_if : (b : Bool) (p q : Position) → b ≡ false → (if b then q else p) ≡ p
-position_if true p q e = cc
-position_if false p q e = refl
 
 no_selector : (font : FaceParts) (u : ℕ) (x : Item) → Based font u x → is_recorded_selector x ≡ false
 no_selector font u x b = ap (λ w. not (bit_and w 0x400 == 0)) b.word ∙ ap (λ n. not (n == 0)) (word_unmarked u b.plain.shown)

@@ -9,54 +9,7 @@ use Rattle.buffer_glyphs.specs.Lemmas.Origins.{origins_after_both}
 use Rattle.buffer_core.specs.Sides.{Sides, all_glyphs, flag_requests_of}
 use Rattle.buffer_glyphs.specs.Rewriting.{Arrangement, eventless_arrangement, shifted_event, beside, in_turn}
 use Rattle.buffer_stages.specs.Appending.{AppendsArrangement, RefusesRoomFor}
-
-none_further : (n : ℕ) → 0 + n ≡ n
-none_further n = omega arith
-
-further : (m n k : ℕ) → m + (n + k) ≡ m + n + k
-further m n k = omega arith
-
-shifted_none : (e : Event) → shifted_event 0 e ≡ e
-shifted_none (Merge how from to) = rw (none_further from, none_further to) refl
-shifted_none (MergeGrapheme from to) = rw (none_further from, none_further to) refl
-shifted_none (Replace at taken given) = rw (none_further at) refl
-shifted_none (Circle after beside like) = rw (none_further beside, none_further like) refl
-shifted_none (Delete at) = rw (none_further at) refl
-shifted_none (Move how from order) = rw (none_further from) refl
-shifted_none (Arrange from order) = rw (none_further from) refl
-shifted_none (Sort from order) = rw (none_further from) refl
-shifted_none Reverse = refl
-shifted_none (Break from to) = rw (none_further from, none_further to) refl
-shifted_none (Concat from to) = rw (none_further from, none_further to) refl
-shifted_none (Tatweel from to) = rw (none_further from, none_further to) refl
-shifted_none (StrictBreak from to) = rw (none_further from, none_further to) refl
-shifted_none Spread = refl
-shifted_none Reset = refl
-
-shifted_twice : (m n : ℕ) (e : Event) → shifted_event m (shifted_event n e) ≡ shifted_event (m + n) e
-shifted_twice m n (Merge how from to) = rw (further m n from, further m n to) refl
-shifted_twice m n (MergeGrapheme from to) = rw (further m n from, further m n to) refl
-shifted_twice m n (Replace at taken given) = rw (further m n at) refl
-shifted_twice m n (Circle after beside like) = rw (further m n beside, further m n like) refl
-shifted_twice m n (Delete at) = rw (further m n at) refl
-shifted_twice m n (Move how from order) = rw (further m n from) refl
-shifted_twice m n (Arrange from order) = rw (further m n from) refl
-shifted_twice m n (Sort from order) = rw (further m n from) refl
-shifted_twice m n Reverse = refl
-shifted_twice m n (Break from to) = rw (further m n from, further m n to) refl
-shifted_twice m n (Concat from to) = rw (further m n from, further m n to) refl
-shifted_twice m n (Tatweel from to) = rw (further m n from, further m n to) refl
-shifted_twice m n (StrictBreak from to) = rw (further m n from, further m n to) refl
-shifted_twice m n Spread = refl
-shifted_twice m n Reset = refl
-
-pub all_shifted_none : (es : List Event) → map (shifted_event 0) es ≡ es
-all_shifted_none [] = refl
-all_shifted_none (e ∷ es) = ap₂ (λ e es. e ∷ es) (shifted_none e) (all_shifted_none es)
-
-pub all_shifted_twice : (m n : ℕ) (es : List Event) → map (shifted_event m) (map (shifted_event n) es) ≡ map (shifted_event (m + n)) es
-all_shifted_twice m n [] = refl
-all_shifted_twice m n (e ∷ es) = ap₂ (λ e es. e ∷ es) (shifted_twice m n e) (all_shifted_twice m n es)
+use Rattle.buffer_stages.specs.Lemmas.Shifts.{shift_none as all_shifted_none, shift_by_none as shifted_none, shift_events as all_shifted_twice, shift_event as shifted_twice, further, none_more as none_further}
 
 arranged_same : (a b : Arrangement) → a.items ≡ b.items → a.events ≡ b.events → a ≡ b
 arranged_same a b items events = ap (λ xs. record { items = xs; events = a.events }) items ∙ ap (λ es. record { items = b.items; events = es }) events

@@ -7,6 +7,7 @@ use Rattle.buffer_core.specs.Sides.{Sides, state_of, view_of}
 use Rattle.buffer_stages.specs.Ready.{DoesGlyphStage, IsDone, IsReady}
 use Rattle.buffer_stages.specs.Stages.{IsFollowed}
 use Rattle.shape_pipeline.specs.Chains.{in_order, only_if}
+use Rattle.shape_pipeline.proofs.Alike.{then_alike}
 
 -- what was done was followed
 pub done_followed : (stage : Stage) (old new : Sides) → IsDone stage old new → IsFollowed stage old new
@@ -110,10 +111,6 @@ pub fourth_refused : (a b c d : Stage) (rest : List Stage) (s t u v : Sides) (ca
 fourth_refused a b c d rest s t u v cause f g h e = later_refused a (b ∷ c ∷ d ∷ rest) s t cause f (third_refused b c d rest t u v cause g h e)
 
 -- ---- stages that are grouped
-
-then_alike : (r : Reading) (f g : Stage) → ((v : View) → f v ≡ g v) → and_then r f ≡ and_then r g
-then_alike (Ok r) f g same = ap (then_reading r) (same r.view)
-then_alike (Err e) f g same = refl
 
 -- stages in order are the first of them as one stage, and then the others
 pub in_order_both : (firsts others : List Stage) (v : View) → in_order (firsts ++ others) v ≡ in_order (in_order firsts ∷ others) v

@@ -2,10 +2,10 @@ use Rattle.std.proofs.Common.{◌∙◌, ap, arith, get_or}
 use Rattle.std.proofs.lemmas.List.{length-set}
 use Rattle.std.proofs.lemmas.Option.{slice_get-get_or}
 use Rattle.buffer_glyphs.specs.Items.{item_masked, item_of, strip}
-use Rattle.buffer_glyphs.specs.Lists.{seen_step}
+use Rattle.buffer_glyphs.proofs.Lists.{seen_step}
 use Rattle.buffer_lists.specs.Flags.{flag_requests_of, cluster_flags}
 use Rattle.buffer_lists.proofs.Lemmas.Flags.{flagged_item, spread_step}
-use Rattle.buffer_lists.specs.Lemmas.Neighbours.{no_glyph, rest_whole}
+use Rattle.buffer_lists.proofs.Lemmas.Neighbours.{no_glyph, rest_whole}
 use Rattle.buffer_lists.proofs.flags.spread_glyph_flags.Goals as goal
 
 pub loop-at-preserved : goal.loop-at-preserved

@@ -1,6 +1,6 @@
 use Rattle.std.proofs.Common.{arith, sym, ◌∙◌, refl}
 use Rattle.std.proofs.lemmas.Fn.{says_at_two}
-use Rattle.buffer_lists.specs.Lemmas.Neighbours.{no_glyph, group_begins, group_continues, group_stops, group_ends}
+use Rattle.buffer_lists.proofs.Lemmas.Neighbours.{no_glyph, group_begins, group_continues, group_stops, group_ends}
 use Rattle.buffer_lists.proofs.groups.end_of_group.Goals as goal
 
 pub loop-end-init : goal.loop-end-init

@@ -1,5 +1,5 @@
 use Rattle.buffer_glyphs.specs.declared.info.hb_glyph_info_t.{hb_glyph_info_t}
-use Rattle.buffer_lists.specs.Lemmas.Neighbours.{run_from, none_from}
+use Rattle.buffer_lists.proofs.Lemmas.Neighbours.{run_from, none_from}
 use Rattle.buffer_lists.proofs.groups.next_cluster.Goals as goal
 
 pub returns : goal.returns

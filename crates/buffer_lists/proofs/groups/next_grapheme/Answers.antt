@@ -1,4 +1,4 @@
-use Rattle.buffer_lists.specs.Lemmas.Neighbours.{no_glyph, grapheme_from}
+use Rattle.buffer_lists.proofs.Lemmas.Neighbours.{no_glyph, grapheme_from}
 use Rattle.buffer_lists.proofs.groups.next_grapheme.Goals as goal
 
 pub returns : goal.returns

@@ -4,7 +4,7 @@ use Rattle.buffer_glyphs.specs.Items.{clusters}
 use Rattle.buffer_glyphs.specs.Order.{IsOrdered}
 use Rattle.buffer_lists.specs.Groups.{group_length}
 use Rattle.buffer_lists.specs.Turning.{Turning, turning_of}
-use Rattle.buffer_lists.specs.Lemmas.Turned.{Rest, rest_begins, rest_continues, rest_ends}
+use Rattle.buffer_lists.proofs.Lemmas.Turned.{Rest, rest_begins, rest_continues, rest_ends}
 use Rattle.buffer_lists.specs.Due.{with_due}
 use Rattle.buffer_lists.proofs.Meant.{ahead_as_meant, due_within}
 use Rattle.buffer_lists.proofs.Meant.{meant_long}

@@ -7,7 +7,7 @@ use Rattle.buffer_lists.specs.Groups.{Decides}
 use Rattle.buffer_lists.specs.declared.due.Due.TheVariants.{Nothing}
 use Rattle.buffer_lists.specs.Due.{MayBeDue, with_due}
 use Rattle.buffer_lists.specs.Turning.{turning_of}
-use Rattle.buffer_lists.specs.Lemmas.Turned.{Rest}
+use Rattle.buffer_lists.proofs.Lemmas.Turned.{Rest}
 use Rattle.buffer_lists.proofs.reversal.reverse_groups.Given as goal
 
 -- the groups before `start` were reversed, each in its place

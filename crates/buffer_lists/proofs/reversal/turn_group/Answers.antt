@@ -3,7 +3,7 @@ use Rattle.buffer_glyphs.specs.declared.info.hb_glyph_info_t.{hb_glyph_info_t as
 use Rattle.buffer_glyphs.specs.Items.{clusters}
 use Rattle.buffer_lists.specs.Due.{MayBeDue, with_due}
 use Rattle.buffer_lists.specs.Turning.{is_marked_if, range_reversed, turning_at}
-use Rattle.buffer_lists.specs.Lemmas.Turned.{group_placed, group_ordered}
+use Rattle.buffer_lists.proofs.Lemmas.Turned.{group_placed, group_ordered}
 use Rattle.buffer_lists.proofs.Meant.{meant_long, meant_turned, due_turned}
 use Rattle.buffer_lists.proofs.reversal.turn_group.Goals as goal
 

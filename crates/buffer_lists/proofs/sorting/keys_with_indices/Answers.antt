@@ -2,7 +2,7 @@ use Rattle.std.proofs.Common.{arith, length, refl, ◌<◌}
 use Rattle.std.proofs.lemmas.List.Elements.{All-push, All-same}
 use Rattle.std.proofs.lemmas.Fn.{says_at}
 use Rattle.buffer_lists.specs.declared.sorting.KeyedIndex.{KeyedIndex}
-use Rattle.buffer_lists.specs.Lemmas.Neighbours.{no_glyph}
+use Rattle.buffer_lists.proofs.Lemmas.Neighbours.{no_glyph}
 use Rattle.buffer_lists.proofs.Spans.{keyed_step}
 use Rattle.buffer_lists.proofs.sorting.keys_with_indices.Goals as goal
 

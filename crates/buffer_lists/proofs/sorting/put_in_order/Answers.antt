@@ -1,7 +1,7 @@
 use Rattle.buffer_lists.specs.declared.sorting.KeyedIndex.{KeyedIndex}
 use Rattle.buffer_lists.specs.Sorting.{glyph_at}
 use Rattle.std.proofs.Common.{get_or, refl}
-use Rattle.buffer_lists.specs.Lemmas.Neighbours.{no_glyph}
+use Rattle.buffer_lists.proofs.Lemmas.Neighbours.{no_glyph}
 use Rattle.buffer_lists.proofs.Spans.{no_key, put_step, same_step}
 use Rattle.buffer_lists.proofs.sorting.put_in_order.Goals as goal
 

@@ -6,7 +6,7 @@ use Rattle.buffer_lists.specs.declared.sorting.KeyedIndex.{KeyedIndex}
 use Rattle.buffer_lists.specs.Sorting.{glyph_at}
 use Rattle.buffer_lists.proofs.Spans.{put_same, sorted_is, sort_marks}
 use Rattle.buffer_glyphs.specs.Order.{IsInOrder}
-use Rattle.buffer_lists.specs.Indices.{range_length}
+use Rattle.buffer_lists.proofs.Indices.{range_length}
 use Rattle.buffer_lists.specs.Lemmas.KeyOrder.{all_in_order}
 use Rattle.buffer_lists.proofs.sorting.sort_by_indices.Goals as goal
 

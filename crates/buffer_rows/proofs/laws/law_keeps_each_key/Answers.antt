@@ -1,4 +1,4 @@
-use Rattle.buffer_rows.specs.Orders.{keeps_key}
+use Rattle.buffer_rows.proofs.Orders.{keeps_key}
 use Rattle.buffer_rows.proofs.laws.law_keeps_each_key.Goals as goal
 
 pub returns : goal.returns

@@ -1,4 +1,4 @@
-use Rattle.buffer_rows.specs.Orders.{key_order_map}
+use Rattle.buffer_rows.proofs.Orders.{key_order_map}
 use Rattle.buffer_rows.proofs.laws.law_order_commutes_with_map.Goals as goal
 
 pub returns : goal.returns

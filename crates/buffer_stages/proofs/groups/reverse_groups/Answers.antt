@@ -4,7 +4,7 @@ use Rattle.buffer_glyphs.specs.declared.info.hb_glyph_info_t.{hb_glyph_info_t}
 use Rattle.buffer_glyphs.specs.Items.{Item}
 use Rattle.buffer_core.specs.Sides.{Sides, all_glyphs, items_of}
 use Rattle.buffer_core.specs.Lending.{with_refilled}
-use Rattle.buffer_stages.specs.Lemmas.Arranged.{arranged_order, arranged_rewrites}
+use Rattle.buffer_stages.proofs.Lemmas.Arranged.{arranged_order, arranged_rewrites}
 use Rattle.buffer_stages.proofs.Lemmas.Happened.{merge_happens}
 use Rattle.buffer_stages.specs.Lemmas.Parts.{range_size}
 use Rattle.buffer_stages.specs.Lemmas.Rewritings.{counted}

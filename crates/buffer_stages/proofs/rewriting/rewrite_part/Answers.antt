@@ -8,9 +8,10 @@ use Rattle.buffer_core.specs.Lending.{with_refilled}
 use Rattle.buffer_stages.specs.Ordering.{ArePartMade}
 use Rattle.buffer_glyphs.specs.Rewriting.{eventless_arrangement}
 use Rattle.buffer_stages.specs.SyllableBuffers.{IsRewritten}
-use Rattle.buffer_stages.specs.Lemmas.Parts.{order_kept, part_clusters, part_written, range_seen}
-use Rattle.buffer_stages.specs.Lemmas.Made.{made_clusters}
+use Rattle.buffer_stages.specs.Lemmas.Parts.{order_kept, part_clusters, part_written}
+use Rattle.buffer_stages.proofs.Lemmas.Made.{made_clusters}
 use Rattle.buffer_stages.proofs.rewriting.rewrite_part.Goals as goal
+use Rattle.buffer_glyphs.specs.Lemmas.Origins.{slice_seen as range_seen}
 
 pub returns : goal.returns
 returns g c =

@@ -2,8 +2,8 @@ use Rattle.std.proofs.Common.{◌≡◌, true, ap, sym}
 use Rattle.buffer_glyphs.specs.Items.{item_of}
 use Rattle.layout_match.specs.Applied.{apply_context_of}
 use Rattle.layout_match.specs.Searches.{is_in_syllable}
-use Rattle.layout_contexts.proofs.Beside.{syllable_there}
 use Rattle.layout_contexts.proofs.chain.is_in_own_syllable.Goals as goal
+use Rattle.layout_match.proofs.Own.{syllable_there}
 
 pub returns-else-not-ctx : goal.returns-else-not-ctx
 returns-else-not-ctx c =

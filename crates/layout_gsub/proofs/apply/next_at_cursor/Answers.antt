@@ -1,7 +1,7 @@
 use Rattle.std.proofs.Common.{◌≡◌, false, subst, ℕ}
 use Rattle.buffer_glyphs.specs.Items.{item_of}
-use Rattle.layout_gsub.proofs.Lemmas.Jumped.{passes_there}
 use Rattle.layout_gsub.proofs.apply.next_at_cursor.Goals as goal
+use Rattle.layout_match.proofs.Lemmas.Met.{passes_there}
 
 pub returns-clause-passed : goal.returns-clause-passed
 returns-clause-passed g c a r k x low high at =

@@ -1,4 +1,4 @@
-use Rattle.layout_laws.specs.Lemmas.Nesting.{nests_within_budget}
+use Rattle.layout_laws.proofs.Lemmas.Nesting.{nests_within_budget}
 use Rattle.layout_laws.proofs.length_laws.law_nests_within_budget.Goals as goal
 
 pub returns : goal.returns

@@ -1,4 +1,4 @@
-use Rattle.layout_laws.specs.Lemmas.Lengths.{substitution_depends_on_no_length}
+use Rattle.layout_laws.proofs.Lemmas.Lengths.{substitution_depends_on_no_length}
 use Rattle.layout_laws.proofs.length_laws.law_substitution_depends_on_no_length.Goals as goal
 
 pub returns : goal.returns

@@ -1,4 +1,4 @@
-use Rattle.layout_laws.specs.Lemmas.Unturned.{substitution_stays_unturned}
+use Rattle.layout_laws.proofs.Lemmas.Unturned.{substitution_stays_unturned}
 use Rattle.layout_laws.proofs.part_laws.law_substitution_stays_unturned.Goals as goal
 
 pub returns : goal.returns

@@ -1,4 +1,4 @@
-use Rattle.layout_laws.specs.Lemmas.Counting.{lookups_count_budget}
+use Rattle.layout_laws.proofs.Lemmas.Counting.{lookups_count_budget}
 use Rattle.layout_laws.proofs.rule_length_laws.law_lookups_count_budget.Goals as goal
 
 pub returns : goal.returns

@@ -1,4 +1,4 @@
-use Rattle.layout_laws.specs.Lemmas.Counting.{met_rules_count_budget}
+use Rattle.layout_laws.proofs.Lemmas.Counting.{met_rules_count_budget}
 use Rattle.layout_laws.proofs.rule_length_laws.law_met_rules_count_budget.Goals as goal
 
 pub returns : goal.returns

@@ -2,9 +2,9 @@ use Rattle.std.proofs.Common.{◌≡◌, false, subst, ℕ}
 use Rattle.buffer_glyphs.specs.Items.{item_of}
 use Rattle.layout_contexts.specs.Chains.{context_subtable}
 use Rattle.layout_contexts.proofs.Lemmas.Uncovered.{context_uncovered}
-use Rattle.layout_gsub.proofs.Lemmas.Jumped.{passes_there}
 use Rattle.layout_tables.specs.Covers.{covers_context}
 use Rattle.layout_substitution.proofs.nested.next_context.Goals as goal
+use Rattle.layout_match.proofs.Lemmas.Met.{passes_there}
 
 pub returns-clause-passed : goal.returns-clause-passed
 returns-clause-passed c nest a r k x low high at =

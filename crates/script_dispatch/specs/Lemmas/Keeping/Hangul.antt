@@ -39,7 +39,7 @@ use Rattle.script_dispatch.specs.Lemmas.Keeping.Thai.{merged_keeps_plainly, thai
 
 -- ---- private forms of Thai
 
-shaped_long : (t : Tables) (font : FaceParts) (s : State) (xs : List Item) → length (items_shaped t font s xs) ≡ length xs
+pub shaped_long : (t : Tables) (font : FaceParts) (s : State) (xs : List Item) → length (items_shaped t font s xs) ≡ length xs
 shaped_long t font s [] = refl
 shaped_long t font s (x ∷ xs) = ap suc (shaped_long t font (state_after s x.number) xs)
 
@@ -99,7 +99,7 @@ action_takes font u second third = by_tests (is_leading u) (is_syllable u)
 
 -- ---- steps
 
-letters_long : (n : ℕ) (xs : List Item) → length (letters_from n xs) ≡ length xs
+pub letters_long : (n : ℕ) (xs : List Item) → length (letters_from n xs) ≡ length xs
 letters_long n [] = refl
 letters_long n (x ∷ xs) = ap suc (letters_long (n + 1) xs)
 
@@ -137,7 +137,7 @@ composed_kept n u out x xs level some =
     let left : length out + 1 + (length out + suc m - (length out + n)) ≡ length (out ++ renumbered_first u (x ∷ xs)) + (suc m - (n - 1 + 1)) = omega (arith, a, some) in
     replacement_kept (length out) n 1 (length out + suc m) (length (out ++ renumbered_first u (x ∷ xs)) + (suc m - (n - 1 + 1))) (omega arith) (omega arith) (omega arith) left
 
-letters_some : (letters : Letters) → 0 < length (numbers_of letters)
+pub letters_some : (letters : Letters) → 0 < length (numbers_of letters)
 letters_some (Two l v) = omega arith
 letters_some (Three l v t) = omega arith
 

@@ -20,7 +20,7 @@ use Rattle.script_universal.specs.Masks.{letters_joined_if, letters_join, univer
 use Rattle.script_arabic.specs.Tiles.{tile_recorded}
 use Rattle.script_dispatch.specs.Keeping.{MasksKeepPlainly}
 
-forms_long : (masks : List ℕ) (xs : List Item) (fs : List ℕ) → length (with_forms masks xs fs) ≡ length xs
+pub forms_long : (masks : List ℕ) (xs : List Item) (fs : List ℕ) → length (with_forms masks xs fs) ≡ length xs
 forms_long masks [] fs = refl
 forms_long masks (x ∷ xs) [] = refl
 forms_long masks (x ∷ xs) (f ∷ fs) = ap suc (forms_long masks xs fs)

@@ -1,5 +1,5 @@
 use Rattle.std.proofs.Common.{arith, sym, ◌∙◌}
-use Rattle.script_indic_reordering.specs.Lemmas.Walks.{seeking_next}
+use Rattle.script_indic_reordering.proofs.Lemmas.Walks.{seeking_next}
 use Rattle.script_indic_reordering.proofs.base.base_from.Goals as goal
 
 pub loop-i-preserved : goal.loop-i-preserved

@@ -1,5 +1,5 @@
 use Rattle.std.proofs.Common.{◌≤◌, ◌-◌}
-use Rattle.script_indic_reordering.specs.Lemmas.Walks.{IsSeeking}
+use Rattle.script_indic_reordering.proofs.Lemmas.Walks.{IsSeeking}
 use Rattle.script_indic_reordering.proofs.base.base_from.Given as goal
 
 abbrev pub invariant-loop-i : goal.invariant-loop-i

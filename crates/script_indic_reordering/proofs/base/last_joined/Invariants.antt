@@ -1,5 +1,5 @@
 use Rattle.std.proofs.Common.{◌≤◌, ◌-◌}
-use Rattle.script_indic_reordering.specs.Lemmas.Walks.{IsUnjoined}
+use Rattle.script_indic_reordering.proofs.Lemmas.Walks.{IsUnjoined}
 use Rattle.script_indic_reordering.proofs.base.last_joined.Given as goal
 
 abbrev pub invariant-loop-i : goal.invariant-loop-i

@@ -1,5 +1,5 @@
 use Rattle.std.proofs.Common.{arith}
-use Rattle.script_indic_reordering.specs.Lemmas.Walks.{clearing_next}
+use Rattle.script_indic_reordering.proofs.Lemmas.Walks.{clearing_next}
 use Rattle.script_indic_reordering.proofs.features.clear_before_zwnj.Goals as goal
 
 pub loop-i-preserved : goal.loop-i-preserved

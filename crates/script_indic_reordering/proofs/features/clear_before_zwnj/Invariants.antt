@@ -1,4 +1,4 @@
-use Rattle.script_indic_reordering.specs.Lemmas.Walks.{IsClearing}
+use Rattle.script_indic_reordering.proofs.Lemmas.Walks.{IsClearing}
 use Rattle.script_indic_reordering.proofs.features.clear_before_zwnj.Given as goal
 
 abbrev pub invariant-loop-i : goal.invariant-loop-i

@@ -1,5 +1,5 @@
 use Rattle.std.proofs.Common.{arith}
-use Rattle.script_indic_reordering.specs.Lemmas.Walks.{two_form}
+use Rattle.script_indic_reordering.proofs.Lemmas.Walks.{two_form}
 use Rattle.script_indic_reordering.proofs.features.forms_pref.Goals as goal
 
 pub returns-clause-value : goal.returns-clause-value

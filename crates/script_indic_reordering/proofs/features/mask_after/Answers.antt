@@ -1,5 +1,5 @@
 use Rattle.std.proofs.Common.{arith, refl}
-use Rattle.script_indic_reordering.specs.Lemmas.Walks.{after_made}
+use Rattle.script_indic_reordering.proofs.Lemmas.Walks.{after_made}
 use Rattle.script_indic_reordering.proofs.features.mask_after.Goals as goal
 
 pub returns : goal.returns

@@ -1,5 +1,5 @@
 use Rattle.std.proofs.Common.{arith}
-use Rattle.script_indic_reordering.specs.Lemmas.Walks.{pair_made}
+use Rattle.script_indic_reordering.proofs.Lemmas.Walks.{pair_made}
 use Rattle.script_indic_reordering.proofs.features.mask_at.Goals as goal
 
 pub returns : goal.returns

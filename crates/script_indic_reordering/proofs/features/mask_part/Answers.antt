@@ -1,4 +1,4 @@
-use Rattle.script_indic_reordering.specs.Lemmas.Walks.{part_made}
+use Rattle.script_indic_reordering.proofs.Lemmas.Walks.{part_made}
 use Rattle.script_indic_reordering.proofs.features.mask_part.Goals as goal
 
 pub returns-clause-made : goal.returns-clause-made

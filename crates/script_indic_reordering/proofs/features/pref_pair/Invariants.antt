@@ -1,4 +1,4 @@
-use Rattle.script_indic_reordering.specs.Lemmas.Walks.{IsPairing}
+use Rattle.script_indic_reordering.proofs.Lemmas.Walks.{IsPairing}
 use Rattle.script_indic_reordering.proofs.features.pref_pair.Given as goal
 
 abbrev pub invariant-loop-i : goal.invariant-loop-i

@@ -1,5 +1,5 @@
 use Rattle.std.proofs.Common.{◌∙◌, sym}
-use Rattle.script_indic_reordering.specs.Lemmas.FinalSteps.{form_moves, form_none}
+use Rattle.script_indic_reordering.proofs.Lemmas.FinalSteps.{form_moves, form_none}
 use Rattle.script_indic_reordering.proofs.final_order.move_pref.Goals as goal
 
 pub returns-in_default : goal.returns-in_default

@@ -1,5 +1,5 @@
 use Rattle.std.proofs.Common.{◌∙◌, sym}
-use Rattle.script_indic_reordering.specs.Lemmas.FinalSteps.{reph_moves, reph_moves_base, reph_none, reph_none_base}
+use Rattle.script_indic_reordering.proofs.Lemmas.FinalSteps.{reph_moves, reph_moves_base, reph_none, reph_none_base}
 use Rattle.script_indic_reordering.proofs.final_order.move_reph.Goals as goal
 
 pub returns-then-not-begins_with_reph-clause-rewritten : goal.returns-then-not-begins_with_reph-clause-rewritten

@@ -1,6 +1,6 @@
 use Rattle.script_indic_reordering.specs.Orders.{final_syllable, init_masked}
 use Rattle.buffer_stages.specs.Rewriting.{by_syllable}
-use Rattle.script_indic_reordering.specs.Lemmas.FinalSteps.{followed_next}
+use Rattle.script_indic_reordering.proofs.Lemmas.FinalSteps.{followed_next}
 use Rattle.script_indic_reordering.proofs.final_order.reorder_final.Goals as goal
 
 pub returns : goal.returns

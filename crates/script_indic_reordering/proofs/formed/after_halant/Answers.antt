@@ -1,5 +1,5 @@
 use Rattle.std.proofs.Common.{arith}
-use Rattle.script_indic_reordering.specs.Lemmas.Formed.{after_joined}
+use Rattle.script_indic_reordering.proofs.Lemmas.Formed.{after_joined}
 use Rattle.script_indic_reordering.proofs.formed.after_halant.Goals as goal
 
 pub returns-clause-index : goal.returns-clause-index

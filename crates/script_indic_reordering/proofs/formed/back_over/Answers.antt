@@ -1,5 +1,5 @@
 use Rattle.std.proofs.Common.{sym, ◌∙◌}
-use Rattle.script_indic_reordering.specs.Lemmas.Formed.{backed_none, backed_to}
+use Rattle.script_indic_reordering.proofs.Lemmas.Formed.{backed_none, backed_to}
 use Rattle.script_indic_reordering.proofs.formed.back_over.Goals as goal
 
 pub returns-in-Some-clause-index : goal.returns-in-Some-clause-index

@@ -1,4 +1,4 @@
-use Rattle.script_indic_reordering.specs.Lemmas.Formed.{main_passed, sub_passed}
+use Rattle.script_indic_reordering.proofs.Lemmas.Formed.{main_passed, sub_passed}
 use Rattle.script_indic_reordering.proofs.formed.passed_from_base.Goals as goal
 
 pub returns-then-reph_pos-eq-POS_AFTER_MAIN-clause-count : goal.returns-then-reph_pos-eq-POS_AFTER_MAIN-clause-count

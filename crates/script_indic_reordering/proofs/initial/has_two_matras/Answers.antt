@@ -1,5 +1,5 @@
 use Rattle.std.proofs.Common.{sym, ◌∙◌}
-use Rattle.script_indic_reordering.specs.Lemmas.Sequences.{second_left_met}
+use Rattle.script_indic_reordering.proofs.Lemmas.Sequences.{second_left_met}
 use Rattle.script_indic_reordering.proofs.initial.has_two_matras.Goals as goal
 
 pub returns-then-is_second : goal.returns-then-is_second

@@ -1,4 +1,4 @@
-use Rattle.script_indic_reordering.specs.Lemmas.Steps.{syllable_does}
+use Rattle.script_indic_reordering.proofs.Lemmas.Steps.{syllable_does}
 use Rattle.script_indic_reordering.proofs.initial.reorder_syllable.Goals as goal
 
 pub returns : goal.returns

@@ -2,7 +2,7 @@ use Rattle.std.proofs.Common.{◌≡◌, ◌≤◌, ◌+◌, arith, refl, sym, �
 use Rattle.std.specs.Prelude.{slice_range}
 use Rattle.buffer_core.specs.Sides.{items_of}
 use Rattle.script_indic_reordering.specs.Initial.{first_left, left_count}
-use Rattle.script_indic_reordering.specs.Lemmas.Steps.{count_known, left_counted, matras_kept, matras_turned, seen_in, size_in, two_known}
+use Rattle.script_indic_reordering.proofs.Lemmas.Steps.{count_known, left_counted, matras_kept, matras_turned, seen_in, size_in, two_known}
 use Rattle.script_indic_reordering.proofs.initial.reverse_matras.Goals as goal
 
 pub returns-then-not-has_two_matras : goal.returns-then-not-has_two_matras

@@ -1,4 +1,4 @@
-use Rattle.script_indic_reordering.specs.Lemmas.Steps.{features_do}
+use Rattle.script_indic_reordering.proofs.Lemmas.Steps.{features_do}
 use Rattle.script_indic_reordering.proofs.initial.set_features.Goals as goal
 
 pub returns : goal.returns

@@ -1,4 +1,4 @@
-use Rattle.script_indic_reordering.specs.Lemmas.Steps.{positions_do}
+use Rattle.script_indic_reordering.proofs.Lemmas.Steps.{positions_do}
 use Rattle.script_indic_reordering.proofs.initial.set_positions.Goals as goal
 
 pub returns : goal.returns

@@ -1,5 +1,5 @@
 use Rattle.std.proofs.Common.{◌∙◌, rules, sym}
-use Rattle.script_indic_reordering.specs.Lemmas.FinalSteps.{none_merged, some_merged}
+use Rattle.script_indic_reordering.proofs.Lemmas.FinalSteps.{none_merged, some_merged}
 use Rattle.script_indic_reordering.proofs.left.merge_to_base.Goals as goal
 
 pub returns-in_default : goal.returns-in_default

@@ -1,5 +1,5 @@
 use Rattle.std.proofs.Common.{◌∙◌, sym}
-use Rattle.script_indic_reordering.specs.Lemmas.FinalSteps.{halant_none, lefts_move, no_left}
+use Rattle.script_indic_reordering.proofs.Lemmas.FinalSteps.{halant_none, lefts_move, no_left}
 use Rattle.script_indic_reordering.proofs.left.move_after_halant.Goals as goal
 
 pub returns-in_default : goal.returns-in_default

@@ -1,5 +1,5 @@
 use Rattle.std.proofs.Common.{arith}
-use Rattle.script_indic_reordering.specs.Lemmas.FinalSteps.{lefts_both}
+use Rattle.script_indic_reordering.proofs.Lemmas.FinalSteps.{lefts_both}
 use Rattle.script_indic_reordering.proofs.left.move_lefts.Goals as goal
 
 pub returns : goal.returns

@@ -1,5 +1,5 @@
 use Rattle.std.proofs.Common.{arith}
-use Rattle.script_indic_reordering.specs.Lemmas.LeftPut.{put_is}
+use Rattle.script_indic_reordering.proofs.Lemmas.LeftPut.{put_is}
 use Rattle.script_indic_reordering.proofs.left.put_last.Goals as goal
 
 pub returns : goal.returns

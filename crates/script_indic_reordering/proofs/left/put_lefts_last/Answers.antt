@@ -4,15 +4,16 @@ use Rattle.buffer_glyphs.specs.declared.info.hb_glyph_info_t.{hb_glyph_info_t}
 use Rattle.buffer_glyphs.specs.Items.{Item, item_of, strip}
 use Rattle.buffer_core.specs.Sides.{Sides, all_glyphs, items_of}
 use Rattle.buffer_core.specs.Lending.{with_refilled}
-use Rattle.buffer_stages.specs.Lemmas.Arranged.{arranged_order, arranged_rewrites}
+use Rattle.buffer_stages.proofs.Lemmas.Arranged.{arranged_order, arranged_rewrites}
 use Rattle.buffer_stages.proofs.Lemmas.Happened.{merge_happens}
-use Rattle.buffer_stages.specs.Lemmas.Parts.{range_seen, range_size}
+use Rattle.buffer_stages.specs.Lemmas.Parts.{range_size}
 use Rattle.buffer_stages.specs.Lemmas.Rewritings.{counted}
 use Rattle.buffer_stages.specs.SyllableBuffers.{IsRewritten}
 use Rattle.script_indic_reordering.specs.Final.{lefts_last}
 use Rattle.script_indic_reordering.specs.Left.{glyphs_put}
-use Rattle.script_indic_reordering.specs.Lemmas.LeftPut.{order_in, order_size, put_at, put_items}
+use Rattle.script_indic_reordering.proofs.Lemmas.LeftPut.{order_in, order_size, put_at, put_items}
 use Rattle.script_indic_reordering.proofs.left.put_lefts_last.Goals as goal
+use Rattle.buffer_glyphs.specs.Lemmas.Origins.{slice_seen as range_seen}
 
 pub returns : goal.returns
 returns c =

@@ -2,7 +2,7 @@ use Rattle.std.proofs.Common.{arith}
 use Rattle.script_categories.specs.declared.ot_position_t.TheConstants as position
 use Rattle.buffer_glyphs.specs.Items.{strip}
 use Rattle.script_indic_reordering.specs.Initial.{signs_attached}
-use Rattle.script_indic_reordering.specs.Lemmas.Walks.{attaching_next}
+use Rattle.script_indic_reordering.proofs.Lemmas.Walks.{attaching_next}
 use Rattle.script_indic_reordering.proofs.positions.attach.Goals as goal
 
 pub loop-i-preserved : goal.loop-i-preserved

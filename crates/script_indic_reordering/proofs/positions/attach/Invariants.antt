@@ -1,6 +1,6 @@
 use Rattle.script_categories.specs.declared.ot_position_t.TheConstants as position
 use Rattle.buffer_glyphs.specs.Items.{strip}
-use Rattle.buffer_stages.specs.Lemmas.Made.{AreWritten}
+use Rattle.buffer_stages.proofs.Lemmas.Made.{AreWritten}
 use Rattle.script_indic_reordering.specs.Initial.{signs_attached}
 use Rattle.script_indic_reordering.proofs.positions.attach.Given as goal
 

@@ -1,5 +1,5 @@
 use Rattle.std.proofs.Common.{arith}
-use Rattle.script_indic_reordering.specs.Lemmas.Walks.{leading_next}
+use Rattle.script_indic_reordering.proofs.Lemmas.Walks.{leading_next}
 use Rattle.script_indic_reordering.proofs.positions.lead.Goals as goal
 
 pub loop-i-preserved : goal.loop-i-preserved

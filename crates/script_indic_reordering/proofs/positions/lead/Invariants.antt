@@ -1,4 +1,4 @@
-use Rattle.script_indic_reordering.specs.Lemmas.Walks.{IsLeading}
+use Rattle.script_indic_reordering.proofs.Lemmas.Walks.{IsLeading}
 use Rattle.script_indic_reordering.proofs.positions.lead.Given as goal
 
 abbrev pub invariant-loop-i : goal.invariant-loop-i

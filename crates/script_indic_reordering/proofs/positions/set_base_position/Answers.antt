@@ -1,5 +1,5 @@
 use Rattle.std.proofs.Common.{arith}
-use Rattle.script_indic_reordering.specs.Lemmas.Walks.{basing_here, basing_next}
+use Rattle.script_indic_reordering.proofs.Lemmas.Walks.{basing_here, basing_next}
 use Rattle.script_indic_reordering.proofs.positions.set_base_position.Goals as goal
 
 pub returns-then-i-base : goal.returns-then-i-base

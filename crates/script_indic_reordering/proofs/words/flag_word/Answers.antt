@@ -1,4 +1,4 @@
-use Rattle.script_indic_reordering.specs.Lemmas.Flagged.{word_flagged, word_kept}
+use Rattle.script_indic_reordering.proofs.Lemmas.Flagged.{word_flagged, word_kept}
 use Rattle.script_indic_reordering.proofs.words.flag_word.Goals as goal
 
 pub returns-then-is_left_in_word : goal.returns-then-is_left_in_word

@@ -1,5 +1,5 @@
 use Rattle.std.proofs.Common.{sym, ◌∙◌}
-use Rattle.script_indic_reordering.specs.Lemmas.Flagged.{none_requested}
+use Rattle.script_indic_reordering.proofs.Lemmas.Flagged.{none_requested}
 use Rattle.script_indic_reordering.proofs.words.flag_words.Goals as goal
 
 pub returns-then-not-asks_breaks : goal.returns-then-not-asks_breaks

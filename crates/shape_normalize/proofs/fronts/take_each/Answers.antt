@@ -1,4 +1,4 @@
-use Rattle.buffer_lists.specs.Lemmas.Neighbours.{rest_whole}
+use Rattle.buffer_lists.proofs.Lemmas.Neighbours.{rest_whole}
 use Rattle.shape_normalize.proofs.Taken.{more_taken, none_more, nothing_taken}
 use Rattle.shape_normalize.proofs.fronts.take_each.Goals as goal
 

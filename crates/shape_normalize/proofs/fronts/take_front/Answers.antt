@@ -4,7 +4,7 @@ use Rattle.buffer_glyphs.specs.Origins.{origins}
 use Rattle.buffer_lists.specs.Known.{HasOrder}
 use Rattle.buffer_core.specs.Sides.{Sides, all_glyphs}
 use Rattle.buffer_core.specs.Lending.{with_refilled}
-use Rattle.buffer_stages.specs.Lemmas.Made.{made_clusters}
+use Rattle.buffer_stages.proofs.Lemmas.Made.{made_clusters}
 use Rattle.buffer_stages.specs.Lemmas.Parts.{order_kept}
 use Rattle.shape_normalize.specs.Fronts.{TakesFront, TakesGlyphs}
 use Rattle.shape_normalize.proofs.Taken.{front_taken}

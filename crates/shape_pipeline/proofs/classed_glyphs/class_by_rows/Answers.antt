@@ -3,7 +3,7 @@ use Rattle.buffer_glyphs.specs.Items.{clusters}
 use Rattle.buffer_glyphs.specs.Origins.{origins}
 use Rattle.buffer_lists.specs.Known.{HasOrder}
 use Rattle.buffer_core.specs.Sides.{Sides, all_glyphs}
-use Rattle.buffer_stages.specs.Lemmas.Made.{made_clusters}
+use Rattle.buffer_stages.proofs.Lemmas.Made.{made_clusters}
 use Rattle.buffer_stages.specs.Lemmas.Parts.{order_kept}
 use Rattle.shape_pipeline.proofs.KnownGlyphs.{all_known}
 use Rattle.shape_pipeline.proofs.classed_glyphs.class_by_rows.Goals as goal

@@ -3,7 +3,7 @@ use Rattle.buffer_glyphs.specs.Items.{clusters}
 use Rattle.buffer_glyphs.specs.Origins.{origins}
 use Rattle.buffer_lists.specs.Known.{HasOrder}
 use Rattle.buffer_core.specs.Sides.{Sides, all_glyphs}
-use Rattle.buffer_stages.specs.Lemmas.Made.{made_clusters}
+use Rattle.buffer_stages.proofs.Lemmas.Made.{made_clusters}
 use Rattle.buffer_stages.specs.Lemmas.Parts.{order_kept}
 use Rattle.shape_text.proofs.rotation.mirror_text.Goals as goal
 

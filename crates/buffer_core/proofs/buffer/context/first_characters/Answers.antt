@@ -1,7 +1,8 @@
 use Rattle.std.proofs.Common.{arith, rules, append_assoc}
 use Rattle.std.proofs.lemmas.Grind.{common_steps}
-use Rattle.buffer_core.proofs.Context.{first_step, first_none, taken_whole, taken_full, past_first}
+use Rattle.buffer_core.proofs.Context.{first_step, first_none, taken_whole, taken_full}
 use Rattle.buffer_core.proofs.buffer.context.first_characters.Goals as goal
+use Rattle.buffer_core.proofs.Chars.{utf8_step as past_first}
 
 pub returns-then-is_full : goal.returns-then-is_full
 returns-then-is_full c = taken_full c.loop-c.characters.items _ _ (search rules) c.loop-c.invariant.rest

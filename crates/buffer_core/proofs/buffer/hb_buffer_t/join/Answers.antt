@@ -4,9 +4,10 @@ use Rattle.std.proofs.lemmas.List.{length-append, length-drop, length-replicate}
 use Rattle.buffer_glyphs.specs.Items.{zero_position}
 use Rattle.buffer_core.specs.Sides.{zero_positions}
 use Rattle.buffer_core.proofs.Cleared.{cleared_as}
-use Rattle.buffer_core.proofs.Open.{front_long, order_joined, settled_open}
+use Rattle.buffer_core.proofs.Open.{order_joined, settled_open}
 use Rattle.buffer_core.proofs.Room.{joined_within}
 use Rattle.buffer_core.proofs.buffer.hb_buffer_t.join.Goals as goal
+use Rattle.buffer_core.proofs.Changed.{front_long}
 
 pub invariant_of-self-2 : goal.invariant_of-self-2
 invariant_of-self-2 c =

@@ -2,10 +2,11 @@ use Rattle.std.specs.Vec.{with_items}
 use Rattle.std.proofs.Common.{◌≡◌, ◌<◌, ◌+◌, true, length, take, drop, refl, rules, arith, ap, ◌∙◌}
 use Rattle.std.proofs.lemmas.Grind.{common_steps}
 use Rattle.buffer_glyphs.specs.declared.info.hb_glyph_info_t.{hb_glyph_info_t}
-use Rattle.buffer_core.proofs.Open.{front_long, front_within, order_numbered, settled_open, sound_over}
+use Rattle.buffer_core.proofs.Open.{order_numbered, settled_open, sound_over}
 use Rattle.buffer_core.proofs.Room.{some_ahead, within}
 use Rattle.buffer_core.proofs.Slices.{all_put}
 use Rattle.buffer_core.proofs.buffer.hb_buffer_t.pass_renumbered.Goals as goal
+use Rattle.buffer_core.proofs.Changed.{front_long, front_before as front_within}
 
 pub invariant_of-self : goal.invariant_of-self
 invariant_of-self c =

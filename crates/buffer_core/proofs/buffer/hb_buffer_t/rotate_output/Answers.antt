@@ -3,7 +3,7 @@ use Rattle.std.proofs.Common.{◌≡◌, ◌≤◌, ◌+◌, ◌-◌, length, ru
 use Rattle.std.proofs.lemmas.Grind.{common_steps}
 use Rattle.buffer_core.specs.Inside.{sides_of}
 use Rattle.buffer_core.specs.Moving.{with_output_moved, with_range_moved}
-use Rattle.buffer_core.specs.RangeMoves.{moved_length}
+use Rattle.buffer_core.proofs.RangeMoves.{moved_length}
 use Rattle.buffer_core.proofs.Rotated.{moved_output_view}
 use Rattle.buffer_core.proofs.Slices.{all_put}
 use Rattle.buffer_core.proofs.buffer.hb_buffer_t.rotate_output.Goals as goal

@@ -1,6 +1,6 @@
 use Rattle.std.proofs.Common.{rules, arith, ap, ◌∙◌}
 use Rattle.std.proofs.lemmas.Grind.{common_steps}
-use Rattle.buffer_glyphs.specs.Lists.{drop_next}
+use Rattle.buffer_glyphs.proofs.Lists.{drop_next}
 use Rattle.buffer_core.specs.Sides.{origins_of}
 use Rattle.buffer_core.proofs.HandedOn.{skip_origins}
 use Rattle.buffer_core.proofs.buffer.hb_buffer_t.skip_glyph.Goals as goal

@@ -1,5 +1,5 @@
 use Rattle.std.proofs.Common.{◌-◌, arith}
-use Rattle.buffer_core.specs.RangeMoves.{part_moved}
+use Rattle.buffer_core.proofs.RangeMoves.{part_moved}
 use Rattle.buffer_core.proofs.buffer.rotation.rotate.Goals as goal
 
 pub returns : goal.returns

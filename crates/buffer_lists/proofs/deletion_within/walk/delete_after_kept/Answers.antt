@@ -5,7 +5,7 @@ use Rattle.buffer_lists.specs.DeletionWalk.{settled_glyphs}
 use Rattle.buffer_glyphs.specs.Items.{clusters}
 use Rattle.buffer_glyphs.specs.Order.{IsOrdered}
 use Rattle.buffer_glyphs.proofs.OneDeleted.{taken_less}
-use Rattle.buffer_lists.specs.Lemmas.Neighbours.{no_glyph}
+use Rattle.buffer_lists.proofs.Lemmas.Neighbours.{no_glyph}
 use Rattle.buffer_lists.proofs.Walking.{settled_front, settled_back}
 use Rattle.buffer_lists.proofs.Dues.{recast_due, due_new}
 use Rattle.buffer_lists.proofs.deletion_within.walk.delete_after_kept.Goals as goal

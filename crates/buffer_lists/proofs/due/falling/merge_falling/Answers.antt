@@ -5,7 +5,7 @@ use Rattle.buffer_glyphs.specs.declared.info.hb_glyph_info_t.{hb_glyph_info_t as
 use Rattle.buffer_glyphs.specs.Items.{clusters}
 use Rattle.buffer_glyphs.specs.Merges.{least_number}
 use Rattle.buffer_lists.specs.Falling.{IsDueBefore, with_range_in_cluster}
-use Rattle.buffer_lists.specs.Lemmas.Neighbours.{no_glyph}
+use Rattle.buffer_lists.proofs.Lemmas.Neighbours.{no_glyph}
 use Rattle.buffer_lists.proofs.Carried.{range_at, kept_merged, joined_merged, joined_due, begun_merged, begun_due, low_below, all_ahead}
 use Rattle.buffer_lists.proofs.due.falling.merge_falling.Goals as goal
 use Rattle.buffer_lists.proofs.due.falling.merge_falling.Goals.{else-ahead-eq0-via-then-ahead-eq0+else-due-cluster, else-ahead-eq0-via-else-ahead-eq0}

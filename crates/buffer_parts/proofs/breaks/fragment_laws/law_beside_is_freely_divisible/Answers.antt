@@ -1,4 +1,4 @@
-use Rattle.buffer_parts.specs.Breaks.Lemmas.Beside.{beside_is_freely_divisible}
+use Rattle.buffer_parts.proofs.BreakLemmas.Beside.{beside_is_freely_divisible}
 use Rattle.buffer_parts.proofs.breaks.fragment_laws.law_beside_is_freely_divisible.Goals as goal
 
 pub returns : goal.returns

@@ -1,4 +1,4 @@
-use Rattle.buffer_parts.specs.Breaks.Lemmas.Division.{divided_has_fragments}
+use Rattle.buffer_parts.proofs.BreakLemmas.Division.{divided_has_fragments}
 use Rattle.buffer_parts.proofs.breaks.fragment_laws.law_divided_has_fragments.Goals as goal
 
 pub returns : goal.returns

@@ -1,4 +1,4 @@
-use Rattle.buffer_parts.specs.Breaks.Lemmas.Division.{divides_in_turn}
+use Rattle.buffer_parts.proofs.BreakLemmas.Division.{divides_in_turn}
 use Rattle.buffer_parts.proofs.breaks.fragment_laws.law_divides_in_turn.Goals as goal
 
 pub returns : goal.returns

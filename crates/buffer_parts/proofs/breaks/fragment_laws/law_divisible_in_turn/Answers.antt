@@ -1,4 +1,4 @@
-use Rattle.buffer_parts.specs.Breaks.Lemmas.Division.{divisible_in_turn}
+use Rattle.buffer_parts.proofs.BreakLemmas.Division.{divisible_in_turn}
 use Rattle.buffer_parts.proofs.breaks.fragment_laws.law_divisible_in_turn.Goals as goal
 
 pub returns : goal.returns

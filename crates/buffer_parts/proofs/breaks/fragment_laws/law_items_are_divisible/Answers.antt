@@ -1,4 +1,4 @@
-use Rattle.buffer_parts.specs.Breaks.Lemmas.Division.{items_are_divisible}
+use Rattle.buffer_parts.proofs.BreakLemmas.Division.{items_are_divisible}
 use Rattle.buffer_parts.proofs.breaks.fragment_laws.law_items_are_divisible.Goals as goal
 
 pub returns : goal.returns

@@ -1,4 +1,4 @@
-use Rattle.buffer_parts.specs.Breaks.Lemmas.Division.{same_is_divisible}
+use Rattle.buffer_parts.proofs.BreakLemmas.Division.{same_is_divisible}
 use Rattle.buffer_parts.proofs.breaks.fragment_laws.law_same_is_divisible.Goals as goal
 
 pub returns : goal.returns

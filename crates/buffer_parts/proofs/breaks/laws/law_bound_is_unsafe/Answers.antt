@@ -1,4 +1,4 @@
-use Rattle.buffer_parts.specs.Breaks.Lemmas.Bound.{bound_is_unsafe}
+use Rattle.buffer_parts.proofs.BreakLemmas.Bound.{bound_is_unsafe}
 use Rattle.buffer_parts.proofs.breaks.laws.law_bound_is_unsafe.Goals as goal
 
 pub returns : goal.returns

@@ -1,4 +1,4 @@
-use Rattle.buffer_parts.specs.Breaks.Lemmas.Crossing.{bound_stays_unsafe}
+use Rattle.buffer_parts.proofs.BreakLemmas.Crossing.{bound_stays_unsafe}
 use Rattle.buffer_parts.proofs.breaks.laws.law_bound_stays_unsafe.Goals as goal
 
 pub returns : goal.returns

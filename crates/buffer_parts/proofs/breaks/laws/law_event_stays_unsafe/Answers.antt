@@ -1,4 +1,4 @@
-use Rattle.buffer_parts.specs.Breaks.Lemmas.Events.{event_stays_unsafe}
+use Rattle.buffer_parts.proofs.BreakLemmas.Events.{event_stays_unsafe}
 use Rattle.buffer_parts.proofs.breaks.laws.law_event_stays_unsafe.Goals as goal
 
 pub returns : goal.returns

@@ -1,4 +1,4 @@
-use Rattle.buffer_parts.specs.Breaks.Lemmas.Events.{safe_breaks_stay}
+use Rattle.buffer_parts.proofs.BreakLemmas.Events.{safe_breaks_stay}
 use Rattle.buffer_parts.proofs.breaks.laws.law_safe_breaks_stay.Goals as goal
 
 pub returns : goal.returns

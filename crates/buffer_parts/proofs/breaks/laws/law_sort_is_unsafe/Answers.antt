@@ -1,4 +1,4 @@
-use Rattle.buffer_parts.specs.Breaks.Lemmas.Sorts.{sort_is_unsafe}
+use Rattle.buffer_parts.proofs.BreakLemmas.Sorts.{sort_is_unsafe}
 use Rattle.buffer_parts.proofs.breaks.laws.law_sort_is_unsafe.Goals as goal
 
 pub returns : goal.returns

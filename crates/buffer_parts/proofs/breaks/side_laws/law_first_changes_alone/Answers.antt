@@ -1,4 +1,4 @@
-use Rattle.buffer_parts.specs.Breaks.Lemmas.Divided.{first_changes_alone}
+use Rattle.buffer_parts.proofs.BreakLemmas.Divided.{first_changes_alone}
 use Rattle.buffer_parts.proofs.breaks.side_laws.law_first_changes_alone.Goals as goal
 
 pub returns : goal.returns

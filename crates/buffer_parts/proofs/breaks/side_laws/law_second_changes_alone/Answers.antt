@@ -1,4 +1,4 @@
-use Rattle.buffer_parts.specs.Breaks.Lemmas.Divided.{second_changes_alone}
+use Rattle.buffer_parts.proofs.BreakLemmas.Divided.{second_changes_alone}
 use Rattle.buffer_parts.proofs.breaks.side_laws.law_second_changes_alone.Goals as goal
 
 pub returns : goal.returns

@@ -1,4 +1,4 @@
-use Rattle.buffer_parts.specs.Breaks.Lemmas.SortOrders.{sorts_permute}
+use Rattle.buffer_parts.proofs.BreakLemmas.SortOrders.{sorts_permute}
 use Rattle.buffer_parts.proofs.breaks.sort_laws.law_sorts_permute.Goals as goal
 
 pub returns : goal.returns

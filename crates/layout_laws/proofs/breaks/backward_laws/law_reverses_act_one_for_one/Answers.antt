@@ -1,4 +1,4 @@
-use Rattle.layout_laws.specs.Breaks.Lemmas.Reverses.{reverses_act_one_for_one}
+use Rattle.layout_laws.proofs.BreakLemmas.Reverses.{reverses_act_one_for_one}
 use Rattle.layout_laws.proofs.breaks.backward_laws.law_reverses_act_one_for_one.Goals as goal
 
 pub returns : goal.returns

@@ -1,4 +1,4 @@
-use Rattle.layout_laws.specs.Breaks.Lemmas.Backward.{reverses_are_divisible}
+use Rattle.layout_laws.proofs.BreakLemmas.Backward.{reverses_are_divisible}
 use Rattle.layout_laws.proofs.breaks.backward_laws.law_reverses_are_divisible.Goals as goal
 
 pub returns : goal.returns

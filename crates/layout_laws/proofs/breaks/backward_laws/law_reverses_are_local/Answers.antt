@@ -1,4 +1,4 @@
-use Rattle.layout_laws.specs.Breaks.Lemmas.Reverses.{reverses_are_local}
+use Rattle.layout_laws.proofs.BreakLemmas.Reverses.{reverses_are_local}
 use Rattle.layout_laws.proofs.breaks.backward_laws.law_reverses_are_local.Goals as goal
 
 pub returns : goal.returns

@@ -1,4 +1,4 @@
-use Rattle.layout_laws.specs.Breaks.Lemmas.Matching.{matches_agree}
+use Rattle.layout_laws.proofs.BreakLemmas.Matching.{matches_agree}
 use Rattle.layout_laws.proofs.breaks.matching_laws.law_matches_agree.Goals as goal
 
 pub returns : goal.returns

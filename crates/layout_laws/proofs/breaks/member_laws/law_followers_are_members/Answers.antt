@@ -1,4 +1,4 @@
-use Rattle.layout_laws.specs.Breaks.Lemmas.Members.{followers_are_members}
+use Rattle.layout_laws.proofs.BreakLemmas.Members.{followers_are_members}
 use Rattle.layout_laws.proofs.breaks.member_laws.law_followers_are_members.Goals as goal
 
 pub returns : goal.returns

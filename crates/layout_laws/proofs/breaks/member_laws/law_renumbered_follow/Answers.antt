@@ -1,4 +1,4 @@
-use Rattle.layout_laws.specs.Breaks.Lemmas.Members.{renumbered_follow}
+use Rattle.layout_laws.proofs.BreakLemmas.Members.{renumbered_follow}
 use Rattle.layout_laws.proofs.breaks.member_laws.law_renumbered_follow.Goals as goal
 
 pub returns : goal.returns

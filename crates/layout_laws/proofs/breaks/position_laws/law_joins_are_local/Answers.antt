@@ -1,4 +1,4 @@
-use Rattle.layout_laws.specs.Breaks.Lemmas.Positionings.{joins_are_local}
+use Rattle.layout_laws.proofs.BreakLemmas.Positionings.{joins_are_local}
 use Rattle.layout_laws.proofs.breaks.position_laws.law_joins_are_local.Goals as goal
 
 pub returns : goal.returns

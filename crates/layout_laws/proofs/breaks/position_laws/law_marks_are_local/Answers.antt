@@ -1,4 +1,4 @@
-use Rattle.layout_laws.specs.Breaks.Lemmas.Positionings.{marks_are_local}
+use Rattle.layout_laws.proofs.BreakLemmas.Positionings.{marks_are_local}
 use Rattle.layout_laws.proofs.breaks.position_laws.law_marks_are_local.Goals as goal
 
 pub returns : goal.returns

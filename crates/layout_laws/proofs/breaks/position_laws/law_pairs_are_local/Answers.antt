@@ -1,4 +1,4 @@
-use Rattle.layout_laws.specs.Breaks.Lemmas.Positionings.{pairs_are_local}
+use Rattle.layout_laws.proofs.BreakLemmas.Positionings.{pairs_are_local}
 use Rattle.layout_laws.proofs.breaks.position_laws.law_pairs_are_local.Goals as goal
 
 pub returns : goal.returns

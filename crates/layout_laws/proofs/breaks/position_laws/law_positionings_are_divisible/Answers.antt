@@ -1,4 +1,4 @@
-use Rattle.layout_laws.specs.Breaks.Lemmas.PlacedPasses.{positionings_are_divisible}
+use Rattle.layout_laws.proofs.BreakLemmas.PlacedPasses.{positionings_are_divisible}
 use Rattle.layout_laws.proofs.breaks.position_laws.law_positionings_are_divisible.Goals as goal
 
 pub returns : goal.returns

@@ -1,4 +1,4 @@
-use Rattle.layout_laws.specs.Breaks.Lemmas.Positionings.{positionings_are_steady}
+use Rattle.layout_laws.proofs.BreakLemmas.Positionings.{positionings_are_steady}
 use Rattle.layout_laws.proofs.breaks.position_laws.law_positionings_are_steady.Goals as goal
 
 pub returns : goal.returns

@@ -1,4 +1,4 @@
-use Rattle.layout_laws.specs.Breaks.Lemmas.PositionsInOrder.{positionings_divide_in_turn}
+use Rattle.layout_laws.proofs.BreakLemmas.PositionsInOrder.{positionings_divide_in_turn}
 use Rattle.layout_laws.proofs.breaks.position_laws.law_positionings_divide_in_turn.Goals as goal
 
 pub returns : goal.returns

@@ -1,4 +1,4 @@
-use Rattle.layout_laws.specs.Breaks.Lemmas.PositionsInOrder.{positionings_in_order_are_divisible}
+use Rattle.layout_laws.proofs.BreakLemmas.PositionsInOrder.{positionings_in_order_are_divisible}
 use Rattle.layout_laws.proofs.breaks.position_laws.law_positionings_in_order_are_divisible.Goals as goal
 
 pub returns : goal.returns

@@ -1,4 +1,4 @@
-use Rattle.layout_laws.specs.Breaks.Lemmas.PositionStages.{unpaused_positioning_is_divisible}
+use Rattle.layout_laws.proofs.BreakLemmas.PositionStages.{unpaused_positioning_is_divisible}
 use Rattle.layout_laws.proofs.breaks.positioning_laws.law_unpaused_positioning_is_divisible.Goals as goal
 
 pub returns : goal.returns

@@ -1,4 +1,4 @@
-use Rattle.layout_laws.specs.Breaks.Lemmas.Rules.{first_rules_are_local}
+use Rattle.layout_laws.proofs.BreakLemmas.Rules.{first_rules_are_local}
 use Rattle.layout_laws.proofs.breaks.rule_laws.law_first_rules_are_local.Goals as goal
 
 pub returns : goal.returns

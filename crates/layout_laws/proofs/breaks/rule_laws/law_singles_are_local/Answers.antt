@@ -1,4 +1,4 @@
-use Rattle.layout_laws.specs.Breaks.Lemmas.Rules.{singles_are_local}
+use Rattle.layout_laws.proofs.BreakLemmas.Rules.{singles_are_local}
 use Rattle.layout_laws.proofs.breaks.rule_laws.law_singles_are_local.Goals as goal
 
 pub returns : goal.returns

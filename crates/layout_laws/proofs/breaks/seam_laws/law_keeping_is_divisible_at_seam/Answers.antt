@@ -1,4 +1,4 @@
-use Rattle.layout_laws.specs.Breaks.Lemmas.Seams.{keeping_is_divisible_at_seam}
+use Rattle.layout_laws.proofs.BreakLemmas.Seams.{keeping_is_divisible_at_seam}
 use Rattle.layout_laws.proofs.breaks.seam_laws.law_keeping_is_divisible_at_seam.Goals as goal
 
 pub returns : goal.returns

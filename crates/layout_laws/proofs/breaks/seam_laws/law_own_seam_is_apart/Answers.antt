@@ -1,4 +1,4 @@
-use Rattle.layout_laws.specs.Breaks.Lemmas.Seams.{own_seam_is_apart}
+use Rattle.layout_laws.proofs.BreakLemmas.Seams.{own_seam_is_apart}
 use Rattle.layout_laws.proofs.breaks.seam_laws.law_own_seam_is_apart.Goals as goal
 
 pub returns : goal.returns

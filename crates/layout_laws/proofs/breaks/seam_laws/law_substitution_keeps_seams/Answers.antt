@@ -1,4 +1,4 @@
-use Rattle.layout_laws.specs.Breaks.Lemmas.Seams.{substitution_keeps_seams}
+use Rattle.layout_laws.proofs.BreakLemmas.Seams.{substitution_keeps_seams}
 use Rattle.layout_laws.proofs.breaks.seam_laws.law_substitution_keeps_seams.Goals as goal
 
 pub returns : goal.returns

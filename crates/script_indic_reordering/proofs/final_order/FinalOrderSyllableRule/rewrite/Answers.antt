@@ -1,8 +1,8 @@
 use Rattle.std.proofs.Common.{arith, sym, ◌∙◌}
 use Rattle.buffer_glyphs.specs.Items.{item_of}
 use Rattle.script_indic_reordering.specs.Final.{final_reordered}
-use Rattle.script_indic_reordering.specs.Lemmas.FinalSteps.{final_does}
-use Rattle.script_indic_reordering.specs.Lemmas.Steps.{kept_does, rule_does}
+use Rattle.script_indic_reordering.proofs.Lemmas.FinalSteps.{final_does}
+use Rattle.script_indic_reordering.proofs.Lemmas.Steps.{kept_does, rule_does}
 use Rattle.script_indic_reordering.proofs.final_order.FinalOrderSyllableRule.rewrite.Goals as goal
 
 pub returns-then-not-is_reordered : goal.returns-then-not-is_reordered

@@ -1,7 +1,7 @@
 use Rattle.std.proofs.Common.{arith, sym, ◌∙◌}
 use Rattle.buffer_glyphs.specs.Items.{item_of}
 use Rattle.script_indic_reordering.specs.Initial.{initial_reordered}
-use Rattle.script_indic_reordering.specs.Lemmas.Steps.{kept_does, rule_does_or}
+use Rattle.script_indic_reordering.proofs.Lemmas.Steps.{kept_does, rule_does_or}
 use Rattle.script_indic_reordering.proofs.initial.InitialOrderSyllableRule.rewrite.Goals as goal
 
 pub returns-then-not-is_reordered : goal.returns-then-not-is_reordered

@@ -1,6 +1,6 @@
 use Rattle.std.proofs.Common.{sym, ◌∙◌, arith}
 use Rattle.script_indic_reordering.specs.Sought.{picks}
-use Rattle.script_indic_reordering.specs.Lemmas.Sequences.{first_here, first_later}
+use Rattle.script_indic_reordering.proofs.Lemmas.Sequences.{first_here, first_later}
 use Rattle.script_indic_reordering.proofs.sought.Sought.first_from.Goals as goal
 
 pub returns-then-picks-clause-value : goal.returns-then-picks-clause-value

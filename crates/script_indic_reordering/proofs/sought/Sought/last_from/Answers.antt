@@ -1,6 +1,6 @@
 use Rattle.std.proofs.Common.{sym, ◌∙◌, arith}
 use Rattle.script_indic_reordering.specs.Sought.{picks}
-use Rattle.script_indic_reordering.specs.Lemmas.Sequences.{last_here, last_none, last_sooner}
+use Rattle.script_indic_reordering.proofs.Lemmas.Sequences.{last_here, last_none, last_sooner}
 use Rattle.script_indic_reordering.proofs.sought.Sought.last_from.Goals as goal
 
 pub returns-then-picks-clause-value : goal.returns-then-picks-clause-value

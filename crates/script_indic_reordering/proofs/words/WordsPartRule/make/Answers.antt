@@ -4,7 +4,7 @@ use Rattle.buffer_glyphs.specs.Items.{item_of, strip}
 use Rattle.script_categories.specs.declared.shaper.hb_ot_script_shaper_t.TheVariants.{INDIC_SHAPER}
 use Rattle.script_categories.specs.Shapers.{is_reordered}
 use Rattle.script_indic_reordering.specs.Final.{words_begun}
-use Rattle.script_indic_reordering.specs.Lemmas.Words.{word_next}
+use Rattle.script_indic_reordering.proofs.Lemmas.Words.{word_next}
 use Rattle.script_indic_reordering.proofs.words.WordsPartRule.make.Goals as goal
 
 pub loop-i-preserved : goal.loop-i-preserved

@@ -3,7 +3,7 @@ use Rattle.std.specs.Prelude.{option_map}
 use Rattle.buffer_glyphs.specs.Items.{item_of, strip}
 use Rattle.script_categories.specs.declared.shaper.hb_ot_script_shaper_t.TheVariants.{INDIC_SHAPER}
 use Rattle.script_categories.specs.Shapers.{is_reordered}
-use Rattle.buffer_stages.specs.Lemmas.Made.{AreWritten}
+use Rattle.buffer_stages.proofs.Lemmas.Made.{AreWritten}
 use Rattle.script_indic_reordering.specs.Final.{words_begun}
 use Rattle.script_indic_reordering.proofs.words.WordsPartRule.make.Given as goal
 

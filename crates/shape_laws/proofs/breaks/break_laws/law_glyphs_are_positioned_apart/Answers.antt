@@ -1,4 +1,4 @@
-use Rattle.shape_laws.specs.Breaks.Lemmas.Adjusted.{glyphs_are_positioned_apart}
+use Rattle.shape_laws.proofs.BreakLemmas.Adjusted.{glyphs_are_positioned_apart}
 use Rattle.shape_laws.proofs.breaks.break_laws.law_glyphs_are_positioned_apart.Goals as goal
 
 pub returns : goal.returns

@@ -1,4 +1,4 @@
-use Rattle.shape_laws.specs.Breaks.Lemmas.SafeTexts.{safe_breaks}
+use Rattle.shape_laws.proofs.BreakLemmas.SafeTexts.{safe_breaks}
 use Rattle.shape_laws.proofs.breaks.break_laws.law_safe_breaks.Goals as goal
 
 pub returns : goal.returns

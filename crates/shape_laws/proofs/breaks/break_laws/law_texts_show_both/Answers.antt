@@ -1,4 +1,4 @@
-use Rattle.shape_laws.specs.Breaks.Lemmas.Readings.{texts_show_both}
+use Rattle.shape_laws.proofs.BreakLemmas.Readings.{texts_show_both}
 use Rattle.shape_laws.proofs.breaks.break_laws.law_texts_show_both.Goals as goal
 
 pub returns : goal.returns

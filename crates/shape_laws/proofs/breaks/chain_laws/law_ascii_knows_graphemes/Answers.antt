@@ -1,4 +1,4 @@
-use Rattle.shape_laws.specs.Breaks.Lemmas.Known.{ascii_knows_graphemes}
+use Rattle.shape_laws.proofs.BreakLemmas.Known.{ascii_knows_graphemes}
 use Rattle.shape_laws.proofs.breaks.chain_laws.law_ascii_knows_graphemes.Goals as goal
 
 pub returns : goal.returns

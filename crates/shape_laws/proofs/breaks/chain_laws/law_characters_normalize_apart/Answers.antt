@@ -1,4 +1,4 @@
-use Rattle.shape_laws.specs.Breaks.Lemmas.Raw.{raw_apart}
+use Rattle.shape_laws.proofs.BreakLemmas.Raw.{raw_apart}
 use Rattle.shape_laws.proofs.breaks.chain_laws.law_characters_normalize_apart.Goals as goal
 
 pub returns : goal.returns

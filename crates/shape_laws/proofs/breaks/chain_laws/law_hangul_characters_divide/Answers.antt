@@ -1,4 +1,4 @@
-use Rattle.shape_laws.specs.Breaks.Lemmas.HangulApart.{hangul_characters_divide}
+use Rattle.shape_laws.proofs.BreakLemmas.HangulApart.{hangul_characters_divide}
 use Rattle.shape_laws.proofs.breaks.chain_laws.law_hangul_characters_divide.Goals as goal
 
 pub returns : goal.returns

@@ -1,4 +1,4 @@
-use Rattle.shape_laws.specs.Breaks.Lemmas.Scripts.{mark_orders_keep_types}
+use Rattle.shape_laws.proofs.BreakLemmas.Scripts.{mark_orders_keep_types}
 use Rattle.shape_laws.proofs.breaks.chain_laws.law_mark_orders_keep_types.Goals as goal
 
 pub returns : goal.returns

@@ -1,4 +1,4 @@
-use Rattle.shape_laws.specs.Breaks.Lemmas.Scripts.{mark_orders_rewrite}
+use Rattle.shape_laws.proofs.BreakLemmas.Scripts.{mark_orders_rewrite}
 use Rattle.shape_laws.proofs.breaks.chain_laws.law_mark_orders_rewrite.Goals as goal
 
 pub returns : goal.returns

@@ -1,4 +1,4 @@
-use Rattle.shape_laws.specs.Breaks.Lemmas.ThaiApart.{thai_characters_divide}
+use Rattle.shape_laws.proofs.BreakLemmas.ThaiApart.{thai_characters_divide}
 use Rattle.shape_laws.proofs.breaks.chain_laws.law_thai_characters_divide.Goals as goal
 
 pub returns : goal.returns

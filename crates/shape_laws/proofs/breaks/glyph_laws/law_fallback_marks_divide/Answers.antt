@@ -1,4 +1,4 @@
-use Rattle.shape_laws.specs.Breaks.Lemmas.FallbackMarks.{fallback_marks_divide}
+use Rattle.shape_laws.proofs.BreakLemmas.FallbackMarks.{fallback_marks_divide}
 use Rattle.shape_laws.proofs.breaks.glyph_laws.law_fallback_marks_divide.Goals as goal
 
 pub returns : goal.returns

@@ -1,4 +1,4 @@
-use Rattle.shape_laws.specs.Breaks.Lemmas.GlyphStages.{glyph_stages_divide}
+use Rattle.shape_laws.proofs.BreakLemmas.GlyphStages.{glyph_stages_divide}
 use Rattle.shape_laws.proofs.breaks.glyph_laws.law_glyph_stages_divide.Goals as goal
 
 pub returns : goal.returns

@@ -1,4 +1,4 @@
-use Rattle.shape_laws.specs.Breaks.Lemmas.Glyphs.{glyphs_show_both}
+use Rattle.shape_laws.proofs.BreakLemmas.Glyphs.{glyphs_show_both}
 use Rattle.shape_laws.proofs.breaks.glyph_laws.law_glyphs_show_both.Goals as goal
 
 pub returns : goal.returns

@@ -1,4 +1,4 @@
-use Rattle.shape_laws.specs.Breaks.Lemmas.Attached.{links_divide}
+use Rattle.shape_laws.proofs.BreakLemmas.Attached.{links_divide}
 use Rattle.shape_laws.proofs.breaks.glyph_laws.law_links_divide.Goals as goal
 
 pub returns : goal.returns

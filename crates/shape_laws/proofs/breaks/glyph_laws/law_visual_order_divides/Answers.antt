@@ -1,4 +1,4 @@
-use Rattle.shape_laws.specs.Breaks.Lemmas.VisualOrder.{order_divides}
+use Rattle.shape_laws.proofs.BreakLemmas.VisualOrder.{order_divides}
 use Rattle.shape_laws.proofs.breaks.glyph_laws.law_visual_order_divides.Goals as goal
 
 pub returns : goal.returns

@@ -1,4 +1,4 @@
-use Rattle.shape_laws.specs.Breaks.Lemmas.Pauses.{compiled_pauses_are_itemwise}
+use Rattle.shape_laws.proofs.BreakLemmas.Pauses.{compiled_pauses_are_itemwise}
 use Rattle.shape_laws.proofs.breaks.pause_laws.law_compiled_pauses_are_itemwise.Goals as goal
 
 pub returns : goal.returns

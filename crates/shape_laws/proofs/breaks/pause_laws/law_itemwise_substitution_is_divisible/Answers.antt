@@ -1,4 +1,4 @@
-use Rattle.shape_laws.specs.Breaks.Lemmas.Pauses.{itemwise_substitution_is_divisible}
+use Rattle.shape_laws.proofs.BreakLemmas.Pauses.{itemwise_substitution_is_divisible}
 use Rattle.shape_laws.proofs.breaks.pause_laws.law_itemwise_substitution_is_divisible.Goals as goal
 
 pub returns : goal.returns

@@ -1,0 +1,13 @@
+pub mod Bits
+pub mod FinalPermuted
+pub mod FinalSteps
+pub mod Flagged
+pub mod Formed
+pub mod KnownForms
+pub mod LeftPut
+pub mod Positions
+pub mod Sequences
+pub mod Steps
+pub mod Walks
+pub mod Words
+pub mod Zwnj
