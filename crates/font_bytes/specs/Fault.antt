@@ -47,9 +47,9 @@ offset_of TooLarge = None
 offset_of OutOfMemory = None
 
 -- the text that says in which table a fault is
-abbrev pub place_of : Option FontTable → List ℕ
-place_of None = []
-place_of (Some table) = codes " in " ++ name_of_table table
+abbrev pub table_text : Option FontTable → List ℕ
+table_text None = []
+table_text (Some table) = codes " in " ++ name_of_table table
 
 -- the text that says at which offset a fault is
 abbrev pub offset_text : Option ℕ → List ℕ
@@ -58,4 +58,4 @@ offset_text (Some at) = codes " at " ++ decimal at
 
 -- the printed text of a fault: the cause's name, and after it the table and the offset, where it has them
 abbrev pub message_of : FontFault → List ℕ
-message_of fault = name_of fault.cause ++ (place_of fault.table ++ offset_text (offset_of fault.cause))
+message_of fault = name_of fault.cause ++ (table_text fault.table ++ offset_text (offset_of fault.cause))

@@ -4,5 +4,5 @@ use Rattle.font_bytes.specs.declared.fault.TableFault.{TableFault}
 use Rattle.font_bytes.specs.declared.fault.TableFault.TheVariants.{TooLarge}
 
 -- the room that some rows leave
-abbrev pub taken : ℕ → ℕ → Result ℕ TableFault
-taken room rows = if nat_le rows room then Ok (room - rows) else Err TooLarge
+abbrev pub room_after : ℕ → ℕ → Result ℕ TableFault
+room_after room rows = if nat_le rows room then Ok (room - rows) else Err TooLarge

@@ -25,8 +25,8 @@ abbrev pub word_at : List ℕ → ℕ → Option ℕ
 word_at bytes at = if fits bytes at 2 then Some (word bytes at) else None
 
 -- the int16 at an offset: two's complement
-unfoldable pub signed : List ℕ → ℕ → ℤ
-signed bytes at = cast_signed w16 (word bytes at)
+unfoldable pub signed_word : List ℕ → ℕ → ℤ
+signed_word bytes at = cast_signed w16 (word bytes at)
 
 -- the uint24 at an offset
 unfoldable pub triple : List ℕ → ℕ → ℕ

@@ -2,7 +2,7 @@
 use crate::directory::font_table;
 use crate::fault::TableFault;
 use crate::room::Room;
-use crate::words::{long_at, signed, word_at};
+use crate::words::{long_at, signed_word, word_at};
 use std::process::Abort;
 
 /// `cmap`
@@ -53,7 +53,7 @@ fn numbers_are_big_endian(rt: HostRuntime) {
     assert_eq!(rt; word_at(&bytes, 2), Some(0xfffe));
     assert_eq!(rt; word_at(&bytes, 3), None);
     assert_eq!(rt; word_at(&bytes, usize::MAX), None);
-    assert_eq!(rt; signed(&bytes, 2), -2);
+    assert_eq!(rt; signed_word(&bytes, 2), -2);
     assert_eq!(rt; long_at(&bytes, 0), Some(0x1234fffe));
     assert_eq!(rt; long_at(&bytes, 1), None);
 }

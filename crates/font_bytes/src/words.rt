@@ -1,6 +1,6 @@
 //! Numbers at offsets of bytes, the more significant byte first (OpenType, chapter 1, data types).
 ghost use Rattle.std.specs.Prelude.{◌≡◌, ◌≤◌, ◌+◌, ◌↔◌, IsTrue, OnOk, length, drop};
-ghost use Rattle.font_bytes.specs.Words.{fits, need, byte, word, word_at, triple, long, long_at, signed};
+ghost use Rattle.font_bytes.specs.Words.{fits, need, byte, word, word_at, triple, long, long_at, signed_word};
 
 use crate::fault::TableFault;
 use byteorder::{BigEndian, ByteOrder};
@@ -71,10 +71,10 @@ pub fn triple(bytes: &[u8], at: usize) -> u32
 }
 
 /// The int16 at an offset that has two bytes: two's complement.
-#[tactic(auto, unfolding(crate::specs::Words::signed))]
-pub fn signed(bytes: &[u8], at: usize) -> i16
+#[tactic(auto, unfolding(crate::specs::Words::signed_word))]
+pub fn signed_word(bytes: &[u8], at: usize) -> i16
     requires { at + 2 ≤ length bytes.now }
-    ensures { result ≡ signed bytes.now at }
+    ensures { result ≡ signed_word bytes.now at }
 {
     word(bytes, at).cast_signed()
 }

@@ -17,8 +17,8 @@ unfoldable pub is_dict_number : ℕ → Bool
 is_dict_number code = nat_le 32 code && nat_le code 254 || code == 28 || code == 29
 
 -- the int16 of some bits, as 32 bits in two's complement
-abbrev pub widened : ℕ → ℕ
-widened bits = if nat_lt bits 32768 then bits else bits + 4294901760
+abbrev pub sign_extension : ℕ → ℕ
+sign_extension bits = if nat_lt bits 32768 then bits else bits + 4294901760
 
 -- the whole number that begins with a byte at an offset, as 32 bits in two's complement, and its length
 unfoldable pub dict_number : List ℕ → ℕ → ℕ → Result (ℕ × ℕ) TableFault
@@ -26,7 +26,7 @@ dict_number table at code =
     if nat_le 32 code && nat_le code 246 then Ok ((code + 4294967157) % 4294967296, 1)
     else (if nat_le 247 code && nat_le code 250 then and_then (need table at 2) (λ _. Ok ((code - 247) * 256 + byte table (at + 1) + 108, 2))
     else (if nat_le 251 code && nat_le code 254 then and_then (need table at 2) (λ _. Ok (4294967295 - ((code - 251) * 256 + byte table (at + 1) + 107), 2))
-    else (if code == 28 then and_then (need table at 3) (λ _. Ok (widened (word table (at + 1)), 3))
+    else (if code == 28 then and_then (need table at 3) (λ _. Ok (sign_extension (word table (at + 1)), 3))
     else and_then (need table at 5) (λ _. Ok (long table (at + 1), 5)))))
 
 -- the values of a DICT with those of one more operator: charset, CharStrings, Private, Subrs, vsindex, vstore, and of two

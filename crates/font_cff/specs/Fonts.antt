@@ -2,7 +2,7 @@
 use Rattle.std.specs.Prelude.{ℕ, zero, suc, ◌+◌, ◌-◌, ◌==◌, Bool, if◌then◌else◌, List, [], ◌∷◌, Result, Ok, Err}
 use Rattle.font_bytes.specs.declared.fault.TableFault.{TableFault}
 use Rattle.font_bytes.specs.Results.{and_then}
-use Rattle.font_bytes.specs.Room.{taken}
+use Rattle.font_bytes.specs.Room.{room_after}
 use Rattle.font_bytes.specs.Words.{need}
 use Rattle.font_common.specs.Offsets.{tables_in}
 use Rattle.font_charstrings.specs.declared.index.Index.{Index}
@@ -29,7 +29,7 @@ local_subrs table at subrs is_cff2 = if subrs == 0 then Ok no_objects else index
 -- the private DICT that a DICT names (Private: size and offset); its bytes take room
 unfoldable pub private_of : List ℕ → Cff → Dict → ℕ → Result (Private × ℕ) TableFault
 private_of table cff d room = and_then (need table d.private_at d.private_size) (λ _.
-    and_then (taken room d.private_size) (λ left.
+    and_then (room_after room d.private_size) (λ left.
     and_then (dict_of table (record { at = d.private_at; end = d.private_at + d.private_size })) (λ p.
     and_then (local_subrs table d.private_at p.subrs cff.is_cff2) (λ local.
     and_then (default_regions table cff.top.store p.vsindex) (λ regions.
@@ -38,8 +38,8 @@ private_of table cff d room = and_then (need table d.private_at d.private_size) 
 -- the private DICT of the font DICT with an index; the bytes of both, and one more, take room
 unfoldable pub font_private : List ℕ → Cff → Index → ℕ → ℕ → Result (Private × ℕ) TableFault
 font_private table cff dicts room index = and_then (object table dicts index) (λ span.
-    and_then (taken room 1) (λ some.
-    and_then (taken some (span.end - span.at)) (λ left.
+    and_then (room_after room 1) (λ some.
+    and_then (room_after some (span.end - span.at)) (λ left.
     and_then (dict_of table span) (λ d.
     private_of table cff d left))))
 

@@ -4,7 +4,7 @@ use Rattle.std.specs.Str.{encode_utf8_all}
 use Rattle.font_bytes.specs.declared.fault.TableFault.{TableFault}
 use Rattle.font_bytes.specs.declared.fault.TableFault.TheVariants.{TooLarge}
 use Rattle.font_bytes.specs.Results.{and_then}
-use Rattle.font_bytes.specs.Room.{taken}
+use Rattle.font_bytes.specs.Room.{room_after}
 use Rattle.font_common.specs.Offsets.{after}
 use Rattle.font_charstrings.specs.declared.index.Index.{Index}
 use Rattle.font_charstrings.specs.Index.{object}
@@ -22,7 +22,7 @@ text_of bytes = encode_utf8_all bytes
 
 -- the name of a glyph, none where it is empty; its bytes take room
 unfoldable pub name_rows : List ℕ → Index → ℕ → ℕ → ℕ → Result (List GlyphName × ℕ) TableFault
-name_rows table strings room glyph sid = and_then (name_bytes table strings sid) (λ bytes. and_then (taken room (length bytes)) (λ left.
+name_rows table strings room glyph sid = and_then (name_bytes table strings sid) (λ bytes. and_then (room_after room (length bytes)) (λ left.
     Ok (if length bytes == 0 then [] else record { glyph = glyph; name = text_of bytes } ∷ [], left)))
 
 -- the names of glyphs from one on, by their string numbers

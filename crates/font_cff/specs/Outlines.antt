@@ -3,7 +3,7 @@ use Rattle.std.specs.Prelude.{ℕ, ◌+◌, ◌-◌, ◌/◌, ◌==◌, nat_lt, 
 use Rattle.font_bytes.specs.declared.fault.TableFault.{TableFault}
 use Rattle.font_bytes.specs.declared.fault.TableFault.TheVariants.{Kind}
 use Rattle.font_bytes.specs.Results.{and_then}
-use Rattle.font_bytes.specs.Room.{taken}
+use Rattle.font_bytes.specs.Room.{room_after}
 use Rattle.font_charstrings.specs.declared.pen.Pen.{Pen}
 use Rattle.font_charstrings.specs.declared.operators.Run.{Run}
 use Rattle.font_charstrings.specs.declared.index.Span.{Span}
@@ -33,8 +33,8 @@ unfoldable pub start_run : Span → Pen → ℕ → Run
 start_run span pen regions = record { pen = pen; at = span.at; end = span.end; stems = 0; regions = regions; is_done = false }
 
 -- a pen with the box of another one, from the origin moved by two operands on
-unfoldable pub begun_at : Pen → ℕ → ℕ → Pen
-begun_at pen dx dy = moved_pen (record { x = 9223372036854775808; y = 9223372036854775808; left = pen.left; bottom = pen.bottom; right = pen.right; top = pen.top; is_open = false }) dx dy
+unfoldable pub start_pen : Pen → ℕ → ℕ → Pen
+start_pen pen dx dy = moved_pen (record { x = 9223372036854775808; y = 9223372036854775808; left = pen.left; bottom = pen.bottom; right = pen.right; top = pen.top; is_open = false }) dx dy
 
 -- adx ady bchar achar endchar (TN 5177, appendix C): the last four operands
 unfoldable pub accent_of : List ℕ → Accent
@@ -50,14 +50,14 @@ unfoldable pub first_glyph : List ℕ → ℕ → Option ℕ
 first_glyph sids sid = position (λ s. s == sid) sids
 
 -- a glyph that was found, if the room is enough for those before it
-abbrev pub found : ℕ → ℕ → Option ℕ → Result (ℕ × ℕ) TableFault
-found at room None = Err (Kind at)
-found at room (Some glyph) = and_then (taken room glyph) (λ left. Ok (glyph, left))
+abbrev pub glyph_in_room : ℕ → ℕ → Option ℕ → Result (ℕ × ℕ) TableFault
+glyph_in_room at room None = Err (Kind at)
+glyph_in_room at room (Some glyph) = and_then (room_after room glyph) (λ left. Ok (glyph, left))
 
 -- the first glyph that the charset gives the character with a code of the standard encoding
 unfoldable pub component : List ℕ → ℕ → ℕ → ℕ → Result (ℕ × ℕ) TableFault
 component sids operand at room = if nat_lt 255 (operand / 65536) then Err (Kind at)
-    else found at room (first_glyph sids (standard_code (operand / 65536)))
+    else glyph_in_room at room (first_glyph sids (standard_code (operand / 65536)))
 
 -- the index of a glyph's private DICT
 unfoldable pub dict_index : List ℕ → ℕ → ℕ → Result ℕ TableFault
@@ -83,7 +83,7 @@ charstring_run table cff privates selects room glyph pen =
     and_then (dict_index selects glyph cff.top.selects) (λ index.
     and_then (private_at privates index cff.top.fonts) (λ p.
     and_then (object table cff.glyphs glyph) (λ span.
-    and_then (taken room 1) (λ left.
+    and_then (room_after room 1) (λ left.
     and_then (runs table (context_of cff p) left (state (start_run span pen p.regions) [] [])) (λ r.
     Ok ((r.0.run.pen, r.0.stack), r.1))))))
 
@@ -93,17 +93,17 @@ part_pen table cff privates selects room glyph pen = and_then (charstring_run ta
     if nat_le 4 (length r.0.1) then Err (Kind cff.glyphs.offsets) else Ok (r.0.0, r.1))
 
 -- the pen after base and accent
-unfoldable pub composed : List ℕ → Cff → List Private → List ℕ → List ℕ → ℕ → Accent → Pen → Result (Pen × ℕ) TableFault
-composed table cff privates selects sids room accent pen =
+unfoldable pub composed_pen : List ℕ → Cff → List Private → List ℕ → List ℕ → ℕ → Accent → Pen → Result (Pen × ℕ) TableFault
+composed_pen table cff privates selects sids room accent pen =
     and_then (component sids accent.base cff.glyphs.offsets room) (λ base.
-    and_then (part_pen table cff privates selects base.1 base.0 (begun_at pen 0 0)) (λ drawn.
+    and_then (part_pen table cff privates selects base.1 base.0 (start_pen pen 0 0)) (λ drawn.
     and_then (component sids accent.accent cff.glyphs.offsets drawn.1) (λ mark.
-    part_pen table cff privates selects mark.1 mark.0 (begun_at drawn.0 accent.dx accent.dy))))
+    part_pen table cff privates selects mark.1 mark.0 (start_pen drawn.0 accent.dx accent.dy))))
 
 -- the pen after a glyph
 unfoldable pub glyph_pen : List ℕ → Cff → List Private → List ℕ → List ℕ → ℕ → ℕ → Result (Pen × ℕ) TableFault
 glyph_pen table cff privates selects sids room glyph = and_then (charstring_run table cff privates selects room glyph new_pen) (λ r.
-    if nat_lt (length r.0.1) 4 then Ok (r.0.0, r.1) else composed table cff privates selects sids r.1 (accent_of r.0.1) r.0.0)
+    if nat_lt (length r.0.1) 4 then Ok (r.0.0, r.1) else composed_pen table cff privates selects sids r.1 (accent_of r.0.1) r.0.0)
 
 -- the box of a glyph
 unfoldable pub glyph_box : List ℕ → Cff → List Private → List ℕ → List ℕ → ℕ → ℕ → Result (GlyphBox × ℕ) TableFault

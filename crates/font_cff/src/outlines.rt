@@ -2,7 +2,7 @@
 ghost use Rattle.std.specs.Prelude.{◌≡◌, ◌≢◌, ◌≤◌, ◌<◌, ◌+◌, ◌*◌, ◌-◌, length, IfOk, IfErr, Ok, Err};
 ghost use Rattle.font_bytes.specs.declared.fault.TableFault.{TableFault};
 ghost use Rattle.font_charstrings.specs.Machine.{state};
-ghost use Rattle.font_cff.specs.Outlines.{whole, box_of, start_run, begun_at, accent_of, first_glyph, found, component, dict_index, private_at, context_of, charstring_run, part_pen, composed, glyph_pen, glyph_box};
+ghost use Rattle.font_cff.specs.Outlines.{whole, box_of, start_run, start_pen, accent_of, first_glyph, glyph_in_room, component, dict_index, private_at, context_of, charstring_run, part_pen, composed_pen, glyph_pen, glyph_box};
 
 use crate::fonts::Private;
 use crate::header::Cff;
@@ -82,9 +82,9 @@ fn start_run(span: Span, pen: Pen, regions: u16) -> Run
 }
 
 /// A pen with the box of another one, from the origin moved by two operands on.
-#[tactic(auto, unfolding(crate::specs::Outlines::begun_at))]
-fn begun_at(pen: Pen, dx: u32, dy: u32) -> Pen
-    ensures { result ≡ begun_at pen dx dy }
+#[tactic(auto, unfolding(crate::specs::Outlines::start_pen))]
+fn start_pen(pen: Pen, dx: u32, dy: u32) -> Pen
+    ensures { result ≡ start_pen pen dx dy }
 {
     let fresh = Pen {
         x: ORIGIN,
@@ -132,8 +132,8 @@ fn find_sid(sids: &[u32], sid: u32) -> Option<usize>
 
 /// A glyph that was found, whose number takes room.
 fn take_found(glyph: Option<usize>, at: usize, room: &mut Room) -> Result<usize, TableFault>
-    ensures ok { IfOk result (λ g. found at room.old.left glyph ≡ Ok (g, room.new.left)) }
-    ensures refused { IfErr result (λ e. found at room.old.left glyph ≡ Err e) }
+    ensures ok { IfOk result (λ g. glyph_in_room at room.old.left glyph ≡ Ok (g, room.new.left)) }
+    ensures refused { IfErr result (λ e. glyph_in_room at room.old.left glyph ≡ Err e) }
 {
     match glyph {
         Some(number) => {
@@ -257,7 +257,7 @@ fn draw_part(
 }
 
 /// Draws base and accent.
-#[tactic(auto, unfolding(crate::specs::Outlines::composed))]
+#[tactic(auto, unfolding(crate::specs::Outlines::composed_pen))]
 fn compose(
     table: &[u8],
     outlines: &Outlines,
@@ -266,20 +266,20 @@ fn compose(
     work: &mut Work,
     room: &mut Room,
 ) -> Result<Pen, TableFault>
-    ensures ok { IfOk result (λ p. composed table.now outlines.now.cff outlines.now.privates.items outlines.now.selects.items outlines.now.sids.items room.old.left accent pen
+    ensures ok { IfOk result (λ p. composed_pen table.now outlines.now.cff outlines.now.privates.items outlines.now.selects.items outlines.now.sids.items room.old.left accent pen
         ≡ Ok (p, room.new.left)) }
     ensures refused { IfErr result (λ e. e ≢ TableFault.OutOfMemory
-        → composed table.now outlines.now.cff outlines.now.privates.items outlines.now.selects.items outlines.now.sids.items room.old.left accent pen ≡ Err e) }
+        → composed_pen table.now outlines.now.cff outlines.now.privates.items outlines.now.selects.items outlines.now.sids.items room.old.left accent pen ≡ Err e) }
 {
     let at = outlines.cff.glyphs.offsets as usize;
     let base = find_component(outlines.sids.as_slice(), accent.base, at, room)?;
-    let with_base = draw_part(table, outlines, base, begun_at(pen, 0, 0), work, room)?;
+    let with_base = draw_part(table, outlines, base, start_pen(pen, 0, 0), work, room)?;
     let mark = find_component(outlines.sids.as_slice(), accent.accent, at, room)?;
     draw_part(
         table,
         outlines,
         mark,
-        begun_at(with_base, accent.dx, accent.dy),
+        start_pen(with_base, accent.dx, accent.dy),
         work,
         room,
     )

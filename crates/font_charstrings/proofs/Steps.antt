@@ -2,7 +2,7 @@
 use Rattle.std.proofs.Common.{◌≡◌, ℕ, ◌+◌, ◌*◌, ◌%◌, Bool, List, length, slice_index, refl, add-one}
 use Rattle.font_charstrings.specs.declared.pen.Pen.{Pen}
 use Rattle.font_charstrings.specs.Pen.{line_to}
-use Rattle.font_charstrings.specs.Paths.{lines, side, sides, turned, flat_curve, flat_curves, cross, corner_curve, corner_curves, spare}
+use Rattle.font_charstrings.specs.Paths.{lines, side, sides, direction_at, flat_curve, flat_curves, cross, corner_curve, corner_curves, spare}
 
 -- no line
 pub lines_none : (args : List ℕ) (pen : Pen) → lines args pen 0 ≡ pen
@@ -20,7 +20,7 @@ unfolding sides
 sides_none args h pen = refl
 
 -- one more line
-pub sides_next : (args : List ℕ) (h : Bool) (pen : Pen) (n : ℕ) → sides args h pen (n + 1) ≡ side (sides args h pen n) (turned h n) (slice_index args n)
+pub sides_next : (args : List ℕ) (h : Bool) (pen : Pen) (n : ℕ) → sides args h pen (n + 1) ≡ side (sides args h pen n) (direction_at h n) (slice_index args n)
 unfolding sides
 sides_next args h pen n = rw add-one refl
 
@@ -41,7 +41,7 @@ unfolding corner_curves
 corner_curves_none args h pen = refl
 
 -- one more curve
-pub corner_curves_next : (args : List ℕ) (h : Bool) (pen : Pen) (n : ℕ) → corner_curves args h pen (n + 1) ≡ corner_curve (corner_curves args h pen n) (turned h n)
+pub corner_curves_next : (args : List ℕ) (h : Bool) (pen : Pen) (n : ℕ) → corner_curves args h pen (n + 1) ≡ corner_curve (corner_curves args h pen n) (direction_at h n)
     (slice_index args (4 * n)) (slice_index args (4 * n + 1)) (slice_index args (4 * n + 2)) (slice_index args (4 * n + 3)) (spare args (4 * n + 4))
 unfolding corner_curves
 corner_curves_next args h pen n = rw add-one refl

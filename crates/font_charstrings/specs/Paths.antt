@@ -7,8 +7,8 @@ use Rattle.font_charstrings.specs.declared.pen.Pen.{Pen}
 use Rattle.font_charstrings.specs.Pen.{line_to, move_to, curve_to, level_to, upright_to}
 
 -- the direction of what has an index in a row that turns each time
-unfoldable pub turned : Bool → ℕ → Bool
-turned is_horizontal index = if index % 2 == 0 then is_horizontal else not is_horizontal
+unfoldable pub direction_at : Bool → ℕ → Bool
+direction_at is_horizontal index = if index % 2 == 0 then is_horizontal else not is_horizontal
 
 -- {dxa dya}+ rlineto: n lines
 unfoldable pub lines : List ℕ → Pen → ℕ → Pen
@@ -22,7 +22,7 @@ side pen is_horizontal d = if is_horizontal then line_to pen d 0 else line_to pe
 -- dx1 {dya dxb}* hlineto, dy1 {dxa dyb}* vlineto: n lines, horizontal and vertical in turn
 unfoldable pub sides : List ℕ → Bool → Pen → ℕ → Pen
 sides args is_horizontal pen zero = pen
-sides args is_horizontal pen (suc n) = side (sides args is_horizontal pen n) (turned is_horizontal n) (slice_index args n)
+sides args is_horizontal pen (suc n) = side (sides args is_horizontal pen n) (direction_at is_horizontal n) (slice_index args n)
 
 -- a curve that begins and ends horizontally or vertically, but for the distance of its first move across
 unfoldable pub flat_curve : Pen → Bool → ℕ → ℕ → ℕ → ℕ → ℕ → Pen
@@ -49,7 +49,7 @@ spare args at = if length args == at + 1 then slice_index args at else 0
 -- hvcurveto, vhcurveto: n curves of four operands that turn each time; the last one may have a fifth
 unfoldable pub corner_curves : List ℕ → Bool → Pen → ℕ → Pen
 corner_curves args is_horizontal pen zero = pen
-corner_curves args is_horizontal pen (suc n) = corner_curve (corner_curves args is_horizontal pen n) (turned is_horizontal n)
+corner_curves args is_horizontal pen (suc n) = corner_curve (corner_curves args is_horizontal pen n) (direction_at is_horizontal n)
     (slice_index args (4 * n)) (slice_index args (4 * n + 1)) (slice_index args (4 * n + 2)) (slice_index args (4 * n + 3)) (spare args (4 * n + 4))
 
 -- dx1 dx2 dy2 dx3 dx4 dx5 dx6 hflex: the fifth point is at the height of the first
@@ -84,16 +84,16 @@ unfoldable pub line_curve_pairs : ℕ → ℕ
 line_curve_pairs count = if nat_lt count 8 then 0 else count / 2
 
 -- dx dy rmoveto, dx hmoveto, dy vmoveto, after a width that may be there
-unfoldable pub begun : ℕ → ℕ → Pen → List ℕ → Result Pen TableFault
-begun code at pen args =
+unfoldable pub pen_after_move : ℕ → ℕ → Pen → List ℕ → Result Pen TableFault
+pen_after_move code at pen args =
     if code == 21 && nat_le 2 (length args) then Ok (move_to pen (slice_index args (length args - 2)) (slice_index args (length args - 1)))
     else (if code == 22 && nat_le 1 (length args) then Ok (move_to pen (slice_index args (length args - 1)) 0)
     else (if code == 4 && nat_le 1 (length args) then Ok (move_to pen 0 (slice_index args (length args - 1)))
     else Err (Kind at)))
 
 -- what a path operator of one byte draws
-unfoldable pub drawn : ℕ → ℕ → Pen → List ℕ → Result Pen TableFault
-drawn code at pen args =
+unfoldable pub pen_after_path : ℕ → ℕ → Pen → List ℕ → Result Pen TableFault
+pen_after_path code at pen args =
     if code == 5 then Ok (lines args pen (length args / 2))
     else (if code == 6 then Ok (sides args true pen (length args))
     else (if code == 7 then Ok (sides args false pen (length args))
@@ -104,11 +104,11 @@ drawn code at pen args =
     else (if code == 27 then Ok (flat_curves args true pen (length args / 4))
     else (if code == 30 then Ok (corner_curves args false pen (length args / 4))
     else (if code == 31 then Ok (corner_curves args true pen (length args / 4))
-    else begun code at pen args)))))))))
+    else pen_after_move code at pen args)))))))))
 
 -- what a path operator of two bytes draws, by the second one
-unfoldable pub flexed : ℕ → ℕ → Pen → List ℕ → Result Pen TableFault
-flexed code at pen args =
+unfoldable pub pen_after_flex : ℕ → ℕ → Pen → List ℕ → Result Pen TableFault
+pen_after_flex code at pen args =
     if code == 34 && length args == 7 then Ok (hflex args pen)
     else (if code == 35 && length args == 13 then Ok (lines args pen 6)
     else (if code == 36 && length args == 9 then Ok (hflex1 args pen)

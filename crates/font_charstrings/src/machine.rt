@@ -1,12 +1,12 @@
 //! Charstrings, step by step (TN 5177, 4; OpenType, chapter CFF2).
 ghost use Rattle.std.specs.Prelude.{◌≡◌, ◌≢◌, ◌≤◌, ◌<◌, ◌+◌, ◌*◌, ◌-◌, length, IfOk, IfErr, Ok, Err};
 ghost use Rattle.font_bytes.specs.declared.fault.TableFault.{TableFault};
-ghost use Rattle.font_charstrings.specs.Machine.{state, with_calls, done, resumed, left, entered, called, operated, step, runs, is_stem};
+ghost use Rattle.font_charstrings.specs.Machine.{state, with_calls, run_at_end, run_at_span, after_return, subroutine_start, after_call, after_operator, step, runs, is_stem};
 
 use crate::index::{Index, Span, object};
 use crate::numbers::{is_number, subr_index};
 use crate::operators::{
-    Run, advanced, blend, choose_regions, draw_path, escape, hint_stems, pass_mask, pop_operand,
+    Run, after_bytes, blend, choose_regions, draw_path, escape, hint_stems, pass_mask, pop_operand,
     push_number,
 };
 use font_bytes::fault::TableFault;
@@ -25,9 +25,9 @@ pub struct Context {
 }
 
 /// At its end.
-#[tactic(auto, unfolding(crate::specs::Machine::done))]
-fn done(run: Run) -> Run
-    ensures { result ≡ done run }
+#[tactic(auto, unfolding(crate::specs::Machine::run_at_end))]
+fn run_at_end(run: Run) -> Run
+    ensures { result ≡ run_at_end run }
 {
     Run {
         pen: run.pen,
@@ -40,9 +40,9 @@ fn done(run: Run) -> Run
 }
 
 /// At other bytes.
-#[tactic(auto, unfolding(crate::specs::Machine::resumed))]
-fn resumed(run: Run, span: Span) -> Run
-    ensures { result ≡ resumed run span }
+#[tactic(auto, unfolding(crate::specs::Machine::run_at_span))]
+fn run_at_span(run: Run, span: Span) -> Run
+    ensures { result ≡ run_at_span run span }
 {
     Run {
         pen: run.pen,
@@ -55,25 +55,25 @@ fn resumed(run: Run, span: Span) -> Run
 }
 
 /// Goes back to the caller, or ends where there is none.
-#[tactic(auto, unfolding(crate::specs::Machine::left))]
+#[tactic(auto, unfolding(crate::specs::Machine::after_return))]
 fn leave(run: Run, stack: &mut Vec<u32>, calls: &mut Vec<Span>) -> Run
-    ensures { left (state run stack.old.items calls.old.items) ≡ state result stack.new.items calls.new.items }
+    ensures { after_return (state run stack.old.items calls.old.items) ≡ state result stack.new.items calls.new.items }
 {
     match calls.pop() {
-        Some(span) => resumed(run, span),
+        Some(span) => run_at_span(run, span),
         None => {
             stack.clear();
-            done(run)
+            run_at_end(run)
         }
     }
 }
 
 /// Begins a subroutine.
-#[tactic(auto, unfolding(crate::specs::Machine::entered))]
+#[tactic(auto, unfolding(crate::specs::Machine::subroutine_start))]
 fn enter(run: Run, span: Span, calls: &mut Vec<Span>) -> Result<Run, TableFault>
     requires { run.at + 1 < 18446744073709551616 }
-    ensures ok { IfOk result (λ r. entered run span calls.old.items ≡ Ok (r, calls.new.items)) }
-    ensures refused { IfErr result (λ e. e ≢ TableFault.OutOfMemory → entered run span calls.old.items ≡ Err e) }
+    ensures ok { IfOk result (λ r. subroutine_start run span calls.old.items ≡ Ok (r, calls.new.items)) }
+    ensures refused { IfErr result (λ e. e ≢ TableFault.OutOfMemory → subroutine_start run span calls.old.items ≡ Err e) }
 {
     if calls.len() >= MOST_CALLS {
         return Err(TableFault::TooLarge);
@@ -82,11 +82,11 @@ fn enter(run: Run, span: Span, calls: &mut Vec<Span>) -> Result<Run, TableFault>
         at: run.at + 1,
         end: run.end,
     })?;
-    Ok(resumed(run, span))
+    Ok(run_at_span(run, span))
 }
 
 /// Calls the subroutine that the topmost operand names.
-#[tactic(auto, unfolding(crate::specs::Machine::called))]
+#[tactic(auto, unfolding(crate::specs::Machine::after_call))]
 fn call(
     table: &[u8],
     index: Index,
@@ -95,10 +95,10 @@ fn call(
     calls: &mut Vec<Span>,
 ) -> Result<Run, TableFault>
     requires { run.at + 1 < 18446744073709551616 }
-    ensures ok { IfOk result (λ r. called table.now index (state run stack.old.items calls.old.items)
+    ensures ok { IfOk result (λ r. after_call table.now index (state run stack.old.items calls.old.items)
         ≡ Ok (state r stack.new.items calls.new.items)) }
     ensures refused { IfErr result (λ e. e ≢ TableFault.OutOfMemory
-        → called table.now index (state run stack.old.items calls.old.items) ≡ Err e) }
+        → after_call table.now index (state run stack.old.items calls.old.items) ≡ Err e) }
 {
     let operand = pop_operand(stack, run.at)?;
     let span = object(table, index, subr_index(operand, index.count))?;
@@ -113,7 +113,7 @@ fn is_stem(code: u8) -> bool
 }
 
 /// Runs an operator.
-#[tactic(auto, unfolding(crate::specs::Machine::operated))]
+#[tactic(auto, unfolding(crate::specs::Machine::after_operator))]
 fn operate(
     table: &[u8],
     context: Context,
@@ -123,10 +123,10 @@ fn operate(
     calls: &mut Vec<Span>,
 ) -> Result<Run, TableFault>
     requires { run.at + 1 ≤ length table.now }
-    ensures ok { IfOk result (λ r. operated table.now context code (state run stack.old.items calls.old.items)
+    ensures ok { IfOk result (λ r. after_operator table.now context code (state run stack.old.items calls.old.items)
         ≡ Ok (state r stack.new.items calls.new.items)) }
     ensures refused { IfErr result (λ e. e ≢ TableFault.OutOfMemory
-        → operated table.now context code (state run stack.old.items calls.old.items) ≡ Err e) }
+        → after_operator table.now context code (state run stack.old.items calls.old.items) ≡ Err e) }
 {
     if code == 10 {
         return call(table, context.local, run, stack, calls);
@@ -138,7 +138,7 @@ fn operate(
         return Ok(leave(run, stack, calls));
     }
     if code == 14 {
-        return Ok(done(run));
+        return Ok(run_at_end(run));
     }
     if code == 12 {
         return escape(table, run, stack);

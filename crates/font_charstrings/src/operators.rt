@@ -1,10 +1,10 @@
 //! Operators of charstrings (TN 5177, 4; OpenType, chapter CFF2) but for calls.
 ghost use Rattle.std.specs.Prelude.{◌≡◌, ◌≢◌, ◌≤◌, ◌<◌, ◌+◌, ◌*◌, ◌-◌, length, IfOk, IfErr, Ok, Err};
 ghost use Rattle.font_bytes.specs.declared.fault.TableFault.{TableFault};
-ghost use Rattle.font_charstrings.specs.Operators.{advanced, with_pen, with_stems, with_regions, popped, number_pushed, path_drawn, flex_drawn, stems_of, stems_hinted, mask_bytes, mask_passed, magnitude, is_negative, has_same_sign, quotient_bits, divided, blended, regions_at, regions_chosen, escaped};
+ghost use Rattle.font_charstrings.specs.Operators.{after_bytes, with_pen, with_stems, with_regions, top_operand, number_pushed, path_drawn, flex_drawn, stems_of, stems_hinted, mask_bytes, mask_passed, magnitude, is_negative, has_same_sign, quotient_bits, after_div, after_blend, regions_at, regions_chosen, after_escape};
 
 use crate::numbers::number;
-use crate::paths::{drawn, flexed};
+use crate::paths::{pen_after_flex, pen_after_path};
 use crate::pen::Pen;
 use font_bytes::fault::TableFault;
 use font_bytes::words::{byte, long, need, word};
@@ -25,10 +25,10 @@ pub struct Run {
 
 /// Some bytes further on.
 #[inline(always)]
-#[tactic(auto, unfolding(crate::specs::Operators::advanced))]
-pub fn advanced(run: Run, count: usize) -> Run
+#[tactic(auto, unfolding(crate::specs::Operators::after_bytes))]
+pub fn after_bytes(run: Run, count: usize) -> Run
     requires { run.at + count < 18446744073709551616 }
-    ensures { result ≡ advanced run count }
+    ensures { result ≡ after_bytes run count }
 {
     Run {
         pen: run.pen,
@@ -87,10 +87,10 @@ fn with_regions(run: Run, regions: u16) -> Run
 }
 
 /// Takes the topmost operand for the operator at an offset.
-#[tactic(auto, unfolding(crate::specs::Operators::popped))]
+#[tactic(auto, unfolding(crate::specs::Operators::top_operand))]
 pub fn pop_operand(stack: &mut Vec<u32>, at: usize) -> Result<u32, TableFault>
-    ensures ok { IfOk result (λ v. popped at stack.old.items ≡ Ok (v, stack.new.items)) }
-    ensures refused { IfErr result (λ e. popped at stack.old.items ≡ Err e) }
+    ensures ok { IfOk result (λ v. top_operand at stack.old.items ≡ Ok (v, stack.new.items)) }
+    ensures refused { IfErr result (λ e. top_operand at stack.old.items ≡ Err e) }
 {
     match stack.pop() {
         Some(operand) => Ok(operand),
@@ -115,7 +115,7 @@ pub fn push_number(
         return Err(TableFault::TooLarge);
     }
     stack.push(operand)?;
-    Ok(advanced(run, length))
+    Ok(after_bytes(run, length))
 }
 
 /// Draws by a path operator of one byte.
@@ -125,9 +125,9 @@ pub fn draw_path(run: Run, code: u8, stack: &mut Vec<u32>) -> Result<Run, TableF
     ensures ok { IfOk result (λ r. path_drawn run code stack.old.items ≡ Ok (r, stack.new.items)) }
     ensures refused { IfErr result (λ e. path_drawn run code stack.old.items ≡ Err e) }
 {
-    let pen = drawn(code, run.at, run.pen, stack.as_slice())?;
+    let pen = pen_after_path(code, run.at, run.pen, stack.as_slice())?;
     stack.clear();
-    Ok(with_pen(advanced(run, 1), pen))
+    Ok(with_pen(after_bytes(run, 1), pen))
 }
 
 /// Draws by a path operator of two bytes, by the second one.
@@ -137,9 +137,9 @@ fn draw_flex(run: Run, code: u8, stack: &mut Vec<u32>) -> Result<Run, TableFault
     ensures ok { IfOk result (λ r. flex_drawn run code stack.old.items ≡ Ok (r, stack.new.items)) }
     ensures refused { IfErr result (λ e. flex_drawn run code stack.old.items ≡ Err e) }
 {
-    let pen = flexed(code, run.at, run.pen, stack.as_slice())?;
+    let pen = pen_after_flex(code, run.at, run.pen, stack.as_slice())?;
     stack.clear();
-    Ok(with_pen(advanced(run, 2), pen))
+    Ok(with_pen(after_bytes(run, 2), pen))
 }
 
 /// The number of stem hints with those of some operands.
@@ -164,7 +164,7 @@ pub fn hint_stems(run: Run, stack: &mut Vec<u32>) -> Result<Run, TableFault>
 {
     let stems = stems_of(run.stems, stack.len())?;
     stack.clear();
-    Ok(with_stems(advanced(run, 1), stems))
+    Ok(with_stems(after_bytes(run, 1), stems))
 }
 
 /// The bytes of a mask with a bit for each stem hint.
@@ -187,7 +187,7 @@ pub fn pass_mask(table: &[u8], run: Run, stack: &mut Vec<u32>) -> Result<Run, Ta
     let length = mask_bytes(stems);
     need(table, run.at + 1, length)?;
     stack.clear();
-    Ok(with_stems(advanced(run, 1 + length), stems))
+    Ok(with_stems(after_bytes(run, 1 + length), stems))
 }
 
 /// The absolute value of an operand.
@@ -237,11 +237,11 @@ fn quotient_bits(dividend: u32, divisor: u32) -> u32
 }
 
 /// Replaces two operands by their quotient: div.
-#[tactic(auto, unfolding(crate::specs::Operators::divided))]
+#[tactic(auto, unfolding(crate::specs::Operators::after_div))]
 fn divide(run: Run, stack: &mut Vec<u32>) -> Result<Run, TableFault>
     requires { run.at + 2 < 18446744073709551616 }
-    ensures ok { IfOk result (λ r. divided run stack.old.items ≡ Ok (r, stack.new.items)) }
-    ensures refused { IfErr result (λ e. e ≢ TableFault.OutOfMemory → divided run stack.old.items ≡ Err e) }
+    ensures ok { IfOk result (λ r. after_div run stack.old.items ≡ Ok (r, stack.new.items)) }
+    ensures refused { IfErr result (λ e. e ≢ TableFault.OutOfMemory → after_div run stack.old.items ≡ Err e) }
 {
     let divisor = pop_operand(stack, run.at)?;
     let dividend = pop_operand(stack, run.at)?;
@@ -249,15 +249,15 @@ fn divide(run: Run, stack: &mut Vec<u32>) -> Result<Run, TableFault>
         return Err(TableFault::Kind(run.at));
     }
     stack.push(quotient_bits(dividend, divisor))?;
-    Ok(advanced(run, 2))
+    Ok(after_bytes(run, 2))
 }
 
 /// Leaves the values of the default instance: blend.
-#[tactic(auto, unfolding(crate::specs::Operators::blended))]
+#[tactic(auto, unfolding(crate::specs::Operators::after_blend))]
 pub fn blend(run: Run, stack: &mut Vec<u32>) -> Result<Run, TableFault>
     requires { run.at + 1 < 18446744073709551616 }
-    ensures ok { IfOk result (λ r. blended run stack.old.items ≡ Ok (r, stack.new.items)) }
-    ensures refused { IfErr result (λ e. blended run stack.old.items ≡ Err e) }
+    ensures ok { IfOk result (λ r. after_blend run stack.old.items ≡ Ok (r, stack.new.items)) }
+    ensures refused { IfErr result (λ e. after_blend run stack.old.items ≡ Err e) }
 {
     let count = pop_operand(stack, run.at)? as usize / 65536;
     let deltas = count * usize::from(run.regions);
@@ -265,7 +265,7 @@ pub fn blend(run: Run, stack: &mut Vec<u32>) -> Result<Run, TableFault>
         return Err(TableFault::Kind(run.at));
     }
     stack.truncate(stack.len() - deltas);
-    Ok(advanced(run, 1))
+    Ok(after_bytes(run, 1))
 }
 
 /// The number of regions of the item variation data with an index, of the store at an offset.
@@ -299,21 +299,21 @@ pub fn choose_regions(
 {
     let index = pop_operand(stack, run.at)? as usize / 65536;
     let regions = regions_at(table, store, index)?;
-    Ok(with_regions(advanced(run, 1), regions))
+    Ok(with_regions(after_bytes(run, 1), regions))
 }
 
 /// An operator of two bytes: dotsection, which does nothing, div, and the flexes.
-#[tactic(auto, unfolding(crate::specs::Operators::escaped))]
+#[tactic(auto, unfolding(crate::specs::Operators::after_escape))]
 pub fn escape(table: &[u8], run: Run, stack: &mut Vec<u32>) -> Result<Run, TableFault>
     requires { run.at + 1 ≤ length table.now }
-    ensures ok { IfOk result (λ r. escaped table.now run stack.old.items ≡ Ok (r, stack.new.items)) }
+    ensures ok { IfOk result (λ r. after_escape table.now run stack.old.items ≡ Ok (r, stack.new.items)) }
     ensures refused { IfErr result (λ e. e ≢ TableFault.OutOfMemory
-        → escaped table.now run stack.old.items ≡ Err e) }
+        → after_escape table.now run stack.old.items ≡ Err e) }
 {
     need(table, run.at + 1, 1)?;
     let code = byte(table, run.at + 1);
     if code == 0 {
-        return Ok(advanced(run, 2));
+        return Ok(after_bytes(run, 2));
     }
     if code == 12 {
         return divide(run, stack);

@@ -1,6 +1,6 @@
 //! Path operators (TN 5177, 4.1 and 4.2).
 ghost use Rattle.std.specs.Prelude.{◌≡◌, ◌≤◌, ◌<◌, ◌+◌, ◌*◌, ◌/◌, ◌%◌, length, slice_index, true, false, IfOk, IfErr, Ok, Err};
-ghost use Rattle.font_charstrings.specs.Paths.{turned, side, sides, lines, flat_curve, cross, flat_curves, corner_curve, spare, corner_curves, hflex, hflex1, flex1, begun, drawn, flexed, curve_pairs, curve_line_pairs, line_curve_pairs};
+ghost use Rattle.font_charstrings.specs.Paths.{direction_at, side, sides, lines, flat_curve, cross, flat_curves, corner_curve, spare, corner_curves, hflex, hflex1, flex1, pen_after_move, pen_after_path, pen_after_flex, curve_pairs, curve_line_pairs, line_curve_pairs};
 
 use crate::pen::{Pen, curve_to, level_to, line_to, move_to, upright_to};
 use font_bytes::fault::TableFault;
@@ -30,9 +30,9 @@ fn side(pen: Pen, is_horizontal: bool, d: u32) -> Pen
 }
 
 /// The direction of what has an index in a row that turns each time.
-#[tactic(auto, unfolding(crate::specs::Paths::turned))]
-fn turned(is_horizontal: bool, index: usize) -> bool
-    ensures { result ≡ turned is_horizontal index }
+#[tactic(auto, unfolding(crate::specs::Paths::direction_at))]
+fn direction_at(is_horizontal: bool, index: usize) -> bool
+    ensures { result ≡ direction_at is_horizontal index }
 {
     if index % 2 == 0 {
         return is_horizontal;
@@ -47,7 +47,7 @@ fn sides(pen: Pen, args: &[u32], is_horizontal: bool) -> Pen
 {
     let mut drawn = pen;
     for i in 0..args.len() {
-        drawn = side(drawn, turned(is_horizontal, i), args[i]);
+        drawn = side(drawn, direction_at(is_horizontal, i), args[i]);
     }
     drawn
 }
@@ -131,7 +131,7 @@ fn corner_curves(pen: Pen, args: &[u32], is_horizontal: bool) -> Pen
         let across = spare(args, at + 4);
         drawn = corner_curve(
             drawn,
-            turned(is_horizontal, i),
+            direction_at(is_horizontal, i),
             args[at],
             args[at + 1],
             args[at + 2],
@@ -213,9 +213,9 @@ fn line_curve_pairs(count: usize) -> usize
 }
 
 /// Begins a path: rmoveto, hmoveto, vmoveto, whose operands are the last ones; a width may be before them.
-#[tactic(auto, unfolding(crate::specs::Paths::begun))]
-fn begun(code: u8, at: usize, pen: Pen, args: &[u32]) -> Result<Pen, TableFault>
-    ensures { result ≡ begun code at pen args.now }
+#[tactic(auto, unfolding(crate::specs::Paths::pen_after_move))]
+fn pen_after_move(code: u8, at: usize, pen: Pen, args: &[u32]) -> Result<Pen, TableFault>
+    ensures { result ≡ pen_after_move code at pen args.now }
 {
     let count = args.len();
     if code == 21 && count >= 2 {
@@ -231,9 +231,9 @@ fn begun(code: u8, at: usize, pen: Pen, args: &[u32]) -> Result<Pen, TableFault>
 }
 
 /// Draws by a path operator of one byte at an offset.
-#[tactic(auto, unfolding(crate::specs::Paths::drawn))]
-pub fn drawn(code: u8, at: usize, pen: Pen, args: &[u32]) -> Result<Pen, TableFault>
-    ensures { result ≡ drawn code at pen args.now }
+#[tactic(auto, unfolding(crate::specs::Paths::pen_after_path))]
+pub fn pen_after_path(code: u8, at: usize, pen: Pen, args: &[u32]) -> Result<Pen, TableFault>
+    ensures { result ≡ pen_after_path code at pen args.now }
 {
     let count = args.len();
     if code == 5 {
@@ -266,13 +266,13 @@ pub fn drawn(code: u8, at: usize, pen: Pen, args: &[u32]) -> Result<Pen, TableFa
     if code == 31 {
         return Ok(corner_curves(pen, args, true));
     }
-    begun(code, at, pen, args)
+    pen_after_move(code, at, pen, args)
 }
 
 /// Draws by a path operator of two bytes at an offset, by the second one.
-#[tactic(auto, unfolding(crate::specs::Paths::flexed))]
-pub fn flexed(code: u8, at: usize, pen: Pen, args: &[u32]) -> Result<Pen, TableFault>
-    ensures { result ≡ flexed code at pen args.now }
+#[tactic(auto, unfolding(crate::specs::Paths::pen_after_flex))]
+pub fn pen_after_flex(code: u8, at: usize, pen: Pen, args: &[u32]) -> Result<Pen, TableFault>
+    ensures { result ≡ pen_after_flex code at pen args.now }
 {
     let count = args.len();
     if code == 34 && count == 7 {

@@ -1,6 +1,6 @@
 //! The current point of a charstring, and the box of its points. Lengths are in units of 1/65536.
 ghost use Rattle.std.specs.Prelude.{◌≡◌};
-ghost use Rattle.font_charstrings.specs.Pen.{moved, touched, opened, line_to, move_to, level_to, upright_to, curve_to, new_pen, moved_pen};
+ghost use Rattle.font_charstrings.specs.Pen.{moved_coordinate, with_current_point, open_pen, line_to, move_to, level_to, upright_to, curve_to, new_pen, moved_pen};
 
 /// Coordinate 0.
 pub const ORIGIN: u64 = 9223372036854775808;
@@ -36,9 +36,9 @@ pub fn new_pen() -> Pen
 
 /// A coordinate that an operand moves: 16.16, two's complement.
 #[inline(always)]
-#[tactic(auto, unfolding(crate::specs::Pen::moved))]
-fn moved(x: u64, d: u32) -> u64
-    ensures { result ≡ moved x d }
+#[tactic(auto, unfolding(crate::specs::Pen::moved_coordinate))]
+fn moved_coordinate(x: u64, d: u32) -> u64
+    ensures { result ≡ moved_coordinate x d }
 {
     if d < 0x8000_0000 {
         return x.saturating_add(u64::from(d));
@@ -53,8 +53,8 @@ pub fn moved_pen(pen: Pen, dx: u32, dy: u32) -> Pen
     ensures { result ≡ moved_pen pen dx dy }
 {
     Pen {
-        x: moved(pen.x, dx),
-        y: moved(pen.y, dy),
+        x: moved_coordinate(pen.x, dx),
+        y: moved_coordinate(pen.y, dy),
         left: pen.left,
         bottom: pen.bottom,
         right: pen.right,
@@ -65,9 +65,9 @@ pub fn moved_pen(pen: Pen, dx: u32, dy: u32) -> Pen
 
 /// The box takes in the current point, which a path has now.
 #[inline(always)]
-#[tactic(auto, unfolding(crate::specs::Pen::touched))]
-fn touched(pen: Pen) -> Pen
-    ensures { result ≡ touched pen }
+#[tactic(auto, unfolding(crate::specs::Pen::with_current_point))]
+fn with_current_point(pen: Pen) -> Pen
+    ensures { result ≡ with_current_point pen }
 {
     Pen {
         x: pen.x,
@@ -82,14 +82,14 @@ fn touched(pen: Pen) -> Pen
 
 /// Begins a path at the current point where none has begun.
 #[inline(always)]
-#[tactic(auto, unfolding(crate::specs::Pen::opened))]
-fn opened(pen: Pen) -> Pen
-    ensures { result ≡ opened pen }
+#[tactic(auto, unfolding(crate::specs::Pen::open_pen))]
+fn open_pen(pen: Pen) -> Pen
+    ensures { result ≡ open_pen pen }
 {
     if pen.is_open {
         return pen;
     }
-    touched(pen)
+    with_current_point(pen)
 }
 
 /// Begins a path at another point.
@@ -97,7 +97,7 @@ fn opened(pen: Pen) -> Pen
 pub fn move_to(pen: Pen, dx: u32, dy: u32) -> Pen
     ensures { result ≡ move_to pen dx dy }
 {
-    touched(moved_pen(pen, dx, dy))
+    with_current_point(moved_pen(pen, dx, dy))
 }
 
 /// A line to another point.
@@ -106,7 +106,7 @@ pub fn move_to(pen: Pen, dx: u32, dy: u32) -> Pen
 pub fn line_to(pen: Pen, dx: u32, dy: u32) -> Pen
     ensures { result ≡ line_to pen dx dy }
 {
-    touched(moved_pen(opened(pen), dx, dy))
+    with_current_point(moved_pen(open_pen(pen), dx, dy))
 }
 
 /// A curve: two points off it, and its end.
@@ -124,8 +124,8 @@ pub fn curve_to(pen: Pen, dxa: u32, dya: u32, dxb: u32, dyb: u32, dxc: u32, dyc:
 pub fn level_to(pen: Pen, dx: u32, y: u64) -> Pen
     ensures { result ≡ level_to pen dx y }
 {
-    touched(Pen {
-        x: moved(pen.x, dx),
+    with_current_point(Pen {
+        x: moved_coordinate(pen.x, dx),
         y,
         left: pen.left,
         bottom: pen.bottom,
@@ -140,9 +140,9 @@ pub fn level_to(pen: Pen, dx: u32, y: u64) -> Pen
 pub fn upright_to(pen: Pen, x: u64, dy: u32) -> Pen
     ensures { result ≡ upright_to pen x dy }
 {
-    touched(Pen {
+    with_current_point(Pen {
         x,
-        y: moved(pen.y, dy),
+        y: moved_coordinate(pen.y, dy),
         left: pen.left,
         bottom: pen.bottom,
         right: pen.right,

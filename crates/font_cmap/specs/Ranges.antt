@@ -87,14 +87,14 @@ range_at table Groups at = record { first = long table at; end = long table (at 
 range_at table SameGroups at = record { first = long table at; end = long table (at + 4) + 1; rule = Same (long table (at + 8)) }
 
 -- how many bytes a range of a form needs from its offset on
-abbrev pub needed_from : RangeForm → ℕ
-needed_from ByteArray = 256
-needed_from HighByteTable = 512
-needed_from (Segments count) = 4 + 6 * count
-needed_from Trimmed = 4
-needed_from LongTrimmed = 8
-needed_from Groups = 12
-needed_from SameGroups = 12
+abbrev pub bytes_needed : RangeForm → ℕ
+bytes_needed ByteArray = 256
+bytes_needed HighByteTable = 512
+bytes_needed (Segments count) = 4 + 6 * count
+bytes_needed Trimmed = 4
+bytes_needed LongTrimmed = 8
+bytes_needed Groups = 12
+bytes_needed SameGroups = 12
 
 -- how many bytes apart the ranges of a form are
 abbrev pub form_width : RangeForm → ℕ

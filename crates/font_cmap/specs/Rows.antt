@@ -4,7 +4,7 @@ use Rattle.layout_face.specs.declared.parts.CharacterRow.{CharacterRow}
 use Rattle.font_bytes.specs.Records.{records}
 use Rattle.font_cmap.specs.declared.ranges.CharacterRange.{CharacterRange}
 use Rattle.font_cmap.specs.declared.ranges.RangeArray.{RangeArray}
-use Rattle.font_cmap.specs.Ranges.{glyph_in, range_at, form_width, needed_from}
+use Rattle.font_cmap.specs.Ranges.{glyph_in, range_at, form_width, bytes_needed}
 
 -- ---- the rule
 
@@ -56,4 +56,4 @@ ranges_of table a = records (range_at table a.form) (form_width a.form) a.at a.c
 
 -- each range of an array is within a table of a length
 abbrev pub IsArray : ℕ → RangeArray → Type 0
-IsArray size a = (i : ℕ) → i < a.count → a.at + form_width a.form * i + needed_from a.form ≤ size
+IsArray size a = (i : ℕ) → i < a.count → a.at + form_width a.form * i + bytes_needed a.form ≤ size

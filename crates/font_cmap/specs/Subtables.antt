@@ -4,7 +4,7 @@ use Rattle.layout_face.specs.declared.parts.CharacterRow.{CharacterRow}
 use Rattle.font_bytes.specs.declared.fault.TableFault.{TableFault}
 use Rattle.font_bytes.specs.declared.fault.TableFault.TheVariants.{Kind}
 use Rattle.font_bytes.specs.Results.{and_then}
-use Rattle.font_bytes.specs.Room.{taken}
+use Rattle.font_bytes.specs.Room.{room_after}
 use Rattle.font_bytes.specs.Words.{need, word, long}
 use Rattle.font_cmap.specs.declared.ranges.RangeForm.{RangeForm}
 use Rattle.font_cmap.specs.declared.ranges.RangeForm.TheVariants.{ByteArray, HighByteTable, Segments, Trimmed, LongTrimmed, Groups, SameGroups}
@@ -60,4 +60,4 @@ ranges_at table at = and_then (need table at 2) (λ _. ranges_of_format table at
 
 -- the rows of ranges, each of whose characters takes room
 unfoldable pub rows_of_array : ℕ → List ℕ → RangeArray → Result (List CharacterRow × ℕ) TableFault
-rows_of_array room table a = and_then (taken room (count_of 0 (ranges_of table a))) (λ left. Ok (rows_of table 0 (ranges_of table a), left))
+rows_of_array room table a = and_then (room_after room (count_of 0 (ranges_of table a))) (λ left. Ok (rows_of table 0 (ranges_of table a), left))

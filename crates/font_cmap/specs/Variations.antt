@@ -8,7 +8,7 @@ use Rattle.layout_face.specs.declared.parts.VariationRow.{VariationRow}
 use Rattle.buffer_rows.specs.KeyOrder.{key_order}
 use Rattle.font_bytes.specs.declared.fault.TableFault.{TableFault}
 use Rattle.font_bytes.specs.Results.{and_then}
-use Rattle.font_bytes.specs.Room.{taken}
+use Rattle.font_bytes.specs.Room.{room_after}
 use Rattle.font_bytes.specs.Words.{need, byte, word, triple, long}
 use Rattle.font_bytes.specs.Records.{records}
 use Rattle.font_common.specs.Rows.{first_rows}
@@ -58,20 +58,20 @@ after done rest = and_then rest (λ r. Ok (done ++ r.0, r.1))
 unfoldable pub usual_at : List ℕ → (ℕ → ℕ) → ℕ → ℕ → ℕ → ℕ → Result (List VariationRow × ℕ) TableFault
 usual_at table glyph s base offset room = if offset == 0 then Ok ([], room)
     else and_then (need table (base + offset) 4) (λ _. and_then (need table (base + offset + 4) (4 * long table (base + offset)))
-    (λ _. and_then (taken room (ranges_size table (records itself 4 (base + offset + 4) (long table (base + offset)))))
+    (λ _. and_then (room_after room (ranges_size table (records itself 4 (base + offset + 4) (long table (base + offset)))))
     (λ left. Ok (flat_map (range_rows table glyph s) (records itself 4 (base + offset + 4) (long table (base + offset))), left))))
 
 -- NonDefaultUVS at an offset from a base: numUVSMappings at 0, mappings at 4; none at a null offset
-unfoldable pub mapped_at : List ℕ → ℕ → ℕ → ℕ → ℕ → Result (List VariationRow × ℕ) TableFault
-mapped_at table s base offset room = if offset == 0 then Ok ([], room)
+unfoldable pub mappings_at : List ℕ → ℕ → ℕ → ℕ → ℕ → Result (List VariationRow × ℕ) TableFault
+mappings_at table s base offset room = if offset == 0 then Ok ([], room)
     else and_then (need table (base + offset) 4) (λ _. and_then (need table (base + offset + 4) (5 * long table (base + offset)))
-    (λ _. and_then (taken room (long table (base + offset)))
+    (λ _. and_then (room_after room (long table (base + offset)))
     (λ left. Ok (flat_map (mapping_row table s) (records itself 5 (base + offset + 4) (long table (base + offset))), left))))
 
 -- VariationSelector at an offset: varSelector at 0, defaultUVSOffset at 3, nonDefaultUVSOffset at 7, both from a base
 unfoldable pub selector_at : List ℕ → (ℕ → ℕ) → ℕ → ℕ → ℕ → Result (List VariationRow × ℕ) TableFault
 selector_at table glyph base room at = and_then (usual_at table glyph (triple table at) base (long table (at + 3)) room)
-    (λ u. after u.0 (mapped_at table (triple table at) base (long table (at + 7)) u.1))
+    (λ u. after u.0 (mappings_at table (triple table at) base (long table (at + 7)) u.1))
 
 -- the rows of selectors at offsets in turn
 abbrev pub selectors_in : List ℕ → (ℕ → ℕ) → ℕ → ℕ → List ℕ → Result (List VariationRow × ℕ) TableFault
@@ -81,7 +81,7 @@ selectors_in table glyph base room (at ∷ ats) = and_then (selector_at table gl
 -- the subtable at an offset: format 14 at 0, numVarSelectorRecords at 6, records at 10, which take room
 unfoldable pub selectors_at : List ℕ → (ℕ → ℕ) → ℕ → ℕ → Result (List VariationRow × ℕ) TableFault
 selectors_at table glyph at room = and_then (need table at 10) (λ _. if word table at == 14
-    then and_then (need table (at + 10) (11 * long table (at + 6))) (λ _. and_then (taken room (long table (at + 6)))
+    then and_then (need table (at + 10) (11 * long table (at + 6))) (λ _. and_then (room_after room (long table (at + 6)))
     (λ left. selectors_in table glyph at left (records itself 11 (at + 10) (long table (at + 6)))))
     else Ok ([], room))
 

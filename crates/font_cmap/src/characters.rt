@@ -4,7 +4,7 @@ ghost use Rattle.font_cmap.specs.Characters.{characters_at, characters_of, chara
 
 use crate::encoded::{encoded_rows, paged};
 use crate::encodings::{Encoding, chosen_subtable};
-use crate::subtables::{ranges_at, read_rows};
+use crate::subtables::{ranges_at, read_range_rows};
 use buffer_rows::PagedRows;
 use font_bytes::fault::TableFault;
 use font_bytes::room::Room;
@@ -25,7 +25,7 @@ fn read_subtable(
         → characters_of room.old.left table.now encoding at ≡ Err e) }
 {
     let ranges = ranges_at(table, at)?;
-    let rows = read_rows(alloc, table, ranges, room)?;
+    let rows = read_range_rows(alloc, table, ranges, room)?;
     let rows = paged(alloc, rows)?;
     encoded_rows(alloc, table, encoding, ranges, rows)
 }

@@ -1,6 +1,6 @@
 //! The ranges of characters that a subtable maps, and the glyph of each character of a range.
 ghost use Rattle.std.specs.Prelude.{◌≡◌, ◌≤◌, ◌<◌, ◌+◌, ◌*◌, ◌^◌, length};
-ghost use Rattle.font_cmap.specs.Ranges.{byte_glyph, listed_glyph, low_glyph, high_byte_glyph, sequence_glyph, glyph_in, IsWithin, range_at, form_width, segment_rule, needed_from};
+ghost use Rattle.font_cmap.specs.Ranges.{byte_glyph, listed_glyph, low_glyph, high_byte_glyph, sequence_glyph, glyph_in, IsWithin, range_at, form_width, segment_rule, bytes_needed};
 
 use font_bytes::words::{byte, fits, long, word, word_at};
 
@@ -187,7 +187,7 @@ fn segment_at(table: &[u8], count: usize, at: usize) -> CharacterRange
 /// The range of a form at an offset.
 #[tactic(auto, unfolding(crate::specs::Ranges::range_at))]
 pub fn range_at(table: &[u8], form: RangeForm, at: usize) -> CharacterRange
-    requires { at + needed_from form ≤ length table.now }
+    requires { at + bytes_needed form ≤ length table.now }
     ensures value { result ≡ range_at table.now form at }
     ensures within { IsWithin (length table.now) result.rule }
 {

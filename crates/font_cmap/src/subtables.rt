@@ -123,7 +123,7 @@ pub fn ranges_at(table: &[u8], at: usize) -> Result<RangeArray, TableFault>
 
 /// Reads the rows of ranges: rising characters whose glyph isn't 0. Each character that a range has takes a row of room.
 #[tactic(auto, unfolding(crate::specs::Subtables::rows_of_array))]
-pub fn read_rows(
+pub fn read_range_rows(
     alloc: Global,
     table: &[u8],
     ranges: RangeArray,

@@ -5,7 +5,7 @@ ghost use Rattle.font_bytes.specs.Records.{records};
 ghost use Rattle.font_bytes.specs.Words.{triple};
 ghost use Rattle.buffer_rows.specs.KeyOrder.{key_order};
 ghost use Rattle.font_cmap.specs.Encoded.{row_glyph};
-ghost use Rattle.font_cmap.specs.Variations.{variation_row, variants_in, range_size, range_rows, ranges_size, mapping_row, itself, after, usual_at, mapped_at, selector_at, selectors_in, selectors_at, variation_key, sorted_variations, variations_at};
+ghost use Rattle.font_cmap.specs.Variations.{variation_row, variants_in, range_size, range_rows, ranges_size, mapping_row, itself, after, usual_at, mappings_at, selector_at, selectors_in, selectors_at, variation_key, sorted_variations, variations_at};
 
 use crate::encoded::row_glyph;
 use crate::encodings::{find_subtable, record_count};
@@ -204,7 +204,7 @@ fn read_usual(
 
 /// Appends the rows of the table of mappings (NonDefaultUVS) at an offset from a base, none at a null offset. Each mapping
 /// takes a row of room.
-#[tactic(auto, unfolding(crate::specs::Variations::mapped_at))]
+#[tactic(auto, unfolding(crate::specs::Variations::mappings_at))]
 fn read_mapped(
     rows: &mut Vec<VariationRow>,
     table: &[u8],
@@ -214,9 +214,9 @@ fn read_mapped(
     room: &mut Room,
 ) -> Result<(), TableFault>
     requires { base ≤ length table.now }
-    ensures ok { OnOk result (after rows.old.items (mapped_at table.now selector base offset room.old.left) ≡ Ok (rows.new.items, room.new.left)) }
+    ensures ok { OnOk result (after rows.old.items (mappings_at table.now selector base offset room.old.left) ≡ Ok (rows.new.items, room.new.left)) }
     ensures refused { IfErr result (λ e. e ≢ TableFault.OutOfMemory
-        → mapped_at table.now selector base offset room.old.left ≡ Err e) }
+        → mappings_at table.now selector base offset room.old.left ≡ Err e) }
 {
     if offset == 0 {
         return Ok(());

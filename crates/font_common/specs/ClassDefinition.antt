@@ -7,7 +7,7 @@ use Rattle.font_bytes.specs.declared.fault.TableFault.TheVariants.{Order}
 use Rattle.font_bytes.specs.Results.{and_then}
 use Rattle.font_bytes.specs.Words.{need, word}
 use Rattle.font_bytes.specs.Records.{records}
-use Rattle.font_bytes.specs.Room.{taken}
+use Rattle.font_bytes.specs.Room.{room_after}
 use Rattle.layout_common.specs.declared.class_definition.ClassDefinition.{ClassDefinition}
 use Rattle.layout_common.specs.declared.glyph_row.GlyphRow.{GlyphRow}
 use Rattle.font_common.specs.declared.class_definition.ClassRangeRecord.{ClassRangeRecord}
@@ -35,7 +35,7 @@ class_array table at count = records (word table) 2 at count
 -- format 1: startGlyphID at 2, glyphCount at 4, classValueArray at 6; each class takes a row of room
 abbrev pub listed_classes : ℕ → List ℕ → ℕ → Result (List (GlyphRow ℕ) × ℕ) TableFault
 listed_classes room table at = and_then (need table at 6) (λ _. and_then (need table (at + 6) (2 * word table (at + 4)))
-    (λ _. and_then (taken room (word table (at + 4))) (λ left.
+    (λ _. and_then (room_after room (word table (at + 4))) (λ left.
     Ok (listed_rows (word table (at + 2)) (class_array table (at + 6) (glyph_count (word table (at + 2)) (word table (at + 4)))), left))))
 
 -- ---- format 2
@@ -72,12 +72,12 @@ rows_in_ranges at rs = if are_class_ranges 0 rs then Ok (flat_map class_rows_of 
 
 -- rows in the room that they leave
 abbrev pub rows_in_room : ℕ → List (GlyphRow ℕ) → Result (List (GlyphRow ℕ) × ℕ) TableFault
-rows_in_room room rows = and_then (taken room (length rows)) (λ left. Ok (rows, left))
+rows_in_room room rows = and_then (room_after room (length rows)) (λ left. Ok (rows, left))
 
 -- format 2: classRangeCount at 2, classRangeRecords at 4; each range takes a row of room, and each glyph of a range whose
 -- class isn't 0
 abbrev pub range_classes : ℕ → List ℕ → ℕ → Result (List (GlyphRow ℕ) × ℕ) TableFault
-range_classes room table at = and_then (need table (at + 4) (6 * word table (at + 2))) (λ _. and_then (taken room (word table (at + 2)))
+range_classes room table at = and_then (need table (at + 4) (6 * word table (at + 2))) (λ _. and_then (room_after room (word table (at + 2)))
     (λ left. and_then (rows_in_ranges at (class_range_array table (at + 4) (word table (at + 2)))) (rows_in_room left)))
 
 -- ---- both

@@ -6,7 +6,7 @@ use Rattle.font_bytes.specs.declared.fault.TableFault.TheVariants.{Order}
 use Rattle.font_bytes.specs.Results.{and_then}
 use Rattle.font_bytes.specs.Words.{need, word}
 use Rattle.font_bytes.specs.Records.{records}
-use Rattle.font_bytes.specs.Room.{taken}
+use Rattle.font_bytes.specs.Room.{room_after}
 use Rattle.layout_common.specs.Coverage.{in_order}
 use Rattle.font_common.specs.declared.coverage.RangeRecord.{RangeRecord}
 
@@ -79,9 +79,9 @@ abbrev pub glyphs_at_offset : List ℕ → ℕ → ℕ → Result (List ℕ) Tab
 glyphs_at_offset table base offset = if offset == 0 then Ok [] else glyphs_at table (base + offset)
 
 -- the glyphs of the coverage table at an offset from a base, and the room that they leave
-abbrev pub covered_at : ℕ → List ℕ → ℕ → ℕ → Result (List ℕ × ℕ) TableFault
-covered_at room table base offset = and_then (glyphs_at_offset table base offset) (λ gs. and_then (taken room (length gs)) (λ left. Ok (gs, left)))
+abbrev pub glyphs_in_room : ℕ → List ℕ → ℕ → ℕ → Result (List ℕ × ℕ) TableFault
+glyphs_in_room room table base offset = and_then (glyphs_at_offset table base offset) (λ gs. and_then (room_after room (length gs)) (λ left. Ok (gs, left)))
 
 -- the set of glyphs of the coverage table at an offset, and the room that its glyphs leave
 abbrev pub coverage_at : ℕ → List ℕ → ℕ → Result (List ℕ × ℕ) TableFault
-coverage_at room table at = and_then (glyphs_at table at) (λ gs. and_then (taken room (length gs)) (λ left. Ok (in_order gs, left)))
+coverage_at room table at = and_then (glyphs_at table at) (λ gs. and_then (room_after room (length gs)) (λ left. Ok (in_order gs, left)))

@@ -2,7 +2,7 @@
 use Rattle.std.specs.Prelude.{ℕ, ◌+◌, ◌*◌, ◌==◌, if◌then◌else◌, List, [], ◌∷◌, ◌++◌, Result, Ok}
 use Rattle.font_bytes.specs.declared.fault.TableFault.{TableFault}
 use Rattle.font_bytes.specs.Results.{and_then}
-use Rattle.font_bytes.specs.Room.{taken}
+use Rattle.font_bytes.specs.Room.{room_after}
 use Rattle.font_bytes.specs.Words.{need, word}
 use Rattle.font_bytes.specs.Records.{records}
 
@@ -27,7 +27,7 @@ offset_array bytes at count = records (word bytes) 2 at count
 -- the values of the tables of an array of n offsets from a base; each offset takes a row of room
 abbrev pub tables_at : {A : Type 0} → A → (ℕ → List ℕ → ℕ → Result (A × ℕ) TableFault) → List ℕ → ℕ → ℕ → ℕ → ℕ → Result (List A × ℕ) TableFault
 tables_at null read bytes base at count room =
-    and_then (taken room count) (λ left. tables_in (λ r o. value_at_offset null read r bytes base o) left (offset_array bytes at count))
+    and_then (room_after room count) (λ left. tables_in (λ r o. value_at_offset null read r bytes base o) left (offset_array bytes at count))
 
 -- the values of the tables of a count and that many offsets
 abbrev pub list_at : {A : Type 0} → A → (ℕ → List ℕ → ℕ → Result (A × ℕ) TableFault) → List ℕ → ℕ → ℕ → ℕ → Result (List A × ℕ) TableFault

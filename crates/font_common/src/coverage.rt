@@ -1,7 +1,7 @@
 //! Reads coverage tables (OpenType, chapter 2, coverage table).
 ghost use Rattle.std.specs.Prelude.{◌≡◌, ◌≢◌, ◌≤◌, ◌<◌, ◌+◌, ◌-◌, ◌*◌, ◌^◌, ◌++◌, length, IfOk, IfErr, OnOk, Ok, Err};
 ghost use Rattle.font_bytes.specs.Words.{word};
-ghost use Rattle.font_common.specs.Coverage.{is_next, range_record, glyph_run, listed_glyphs, range_glyphs, glyphs_at, glyphs_at_offset, coverage_at, covered_at};
+ghost use Rattle.font_common.specs.Coverage.{is_next, range_record, glyph_run, listed_glyphs, range_glyphs, glyphs_at, glyphs_at_offset, coverage_at, glyphs_in_room};
 
 use font_bytes::fault::TableFault;
 use font_bytes::room::Room;
@@ -144,7 +144,7 @@ pub fn read_glyphs_at_offset(
 
 /// Reads the glyphs of the coverage table at an offset from a base, which take a row of room each. A null offset leads to
 /// no glyph.
-pub fn read_covered(
+pub fn read_glyphs_in_room(
     alloc: Global,
     table: &[u8],
     base: usize,
@@ -152,9 +152,9 @@ pub fn read_covered(
     room: &mut Room,
 ) -> Result<Vec<u16>, TableFault>
     requires { base ≤ length table.now }
-    ensures ok { IfOk result (λ v. covered_at room.old.left table.now base offset ≡ Ok (v.items, room.new.left)) }
+    ensures ok { IfOk result (λ v. glyphs_in_room room.old.left table.now base offset ≡ Ok (v.items, room.new.left)) }
     ensures refused { IfErr result (λ e. e ≢ TableFault.OutOfMemory
-        → covered_at room.old.left table.now base offset ≡ Err e) }
+        → glyphs_in_room room.old.left table.now base offset ≡ Err e) }
 {
     let glyphs = read_glyphs_at_offset(alloc, table, base, offset)?;
     room.take(glyphs.len())?;

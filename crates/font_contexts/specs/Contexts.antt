@@ -4,10 +4,10 @@ use Rattle.std.specs.Prelude.{ℕ, ◌+◌, ◌==◌, Bool, if◌then◌else◌,
 use Rattle.std.specs.Ordering.{nat_cmp}
 use Rattle.font_bytes.specs.declared.fault.TableFault.{TableFault}
 use Rattle.font_bytes.specs.Results.{and_then}
-use Rattle.font_bytes.specs.Room.{taken}
+use Rattle.font_bytes.specs.Room.{room_after}
 use Rattle.font_bytes.specs.Words.{need, word}
 use Rattle.font_common.specs.ClassDefinition.{class_definition_at}
-use Rattle.font_common.specs.Coverage.{coverage_at, covered_at, glyph_run}
+use Rattle.font_common.specs.Coverage.{coverage_at, glyphs_in_room, glyph_run}
 use Rattle.font_common.specs.Offsets.{tables_at, value_at_offset}
 use Rattle.font_common.specs.Rows.{covered_rows, first_rows, word_row}
 use Rattle.layout_common.specs.declared.class_definition.ClassDefinition.{ClassDefinition}
@@ -15,34 +15,34 @@ use Rattle.layout_common.specs.declared.glyph_row.GlyphRow.{GlyphRow}
 use Rattle.layout_tables.specs.declared.context.ContextSubtable.{ContextSubtable}
 use Rattle.layout_tables.specs.declared.context.ContextSubtable.TheVariants.{Glyphs, Classes, Coverage}
 use Rattle.layout_tables.specs.declared.context.SequenceRule.{SequenceRule}
-use Rattle.font_contexts.specs.declared.places.ArrayPlace.{ArrayPlace}
-use Rattle.font_contexts.specs.declared.places.RulePlaces.{RulePlaces}
+use Rattle.font_contexts.specs.declared.arrays.ElementArray.{ElementArray}
+use Rattle.font_contexts.specs.declared.arrays.RuleArrays.{RuleArrays}
 use Rattle.font_contexts.specs.declared.classes.ClassMaps.{ClassMaps}
-use Rattle.font_contexts.specs.Places.{counted_array, places_at}
+use Rattle.font_contexts.specs.Arrays.{counted_array, arrays_at}
 use Rattle.font_contexts.specs.Rules.{lookup_records, rules_at_offset, rules_of_sets, words_of}
 
 -- ---- format 1
 
 -- the sets of glyphs, each with its offset: the set with a coverage index is that of the glyph with the index, and a
 -- repeated glyph has its first set
-abbrev pub glyph_sets : List ℕ → List ℕ → ArrayPlace → List (GlyphRow ℕ)
+abbrev pub glyph_sets : List ℕ → List ℕ → ElementArray → List (GlyphRow ℕ)
 glyph_sets glyphs table sets = first_rows nat_cmp (λ s. s.glyph) None (covered_rows word_row glyphs (words_of table sets))
 
 -- format 1: coverageOffset at 2, seqRuleSetCount at 4, seqRuleSetOffsets at 6. A set takes a row of room, and a glyph
 abbrev pub glyph_rules_at : Bool → ℕ → ℕ → List ℕ → ℕ → Result (List (SequenceRule ℕ) × ℕ) TableFault
 glyph_rules_at chained lookup_count room table at = and_then (need table at 4) (λ _. and_then (counted_array 2 0 table (at + 4))
-    (λ sets. and_then (taken room sets.count) (λ left. and_then (covered_at left table at (word table (at + 2)))
+    (λ sets. and_then (room_after room sets.count) (λ left. and_then (glyphs_in_room left table at (word table (at + 2)))
     (λ c. rules_of_sets (rules_at_offset chained lookup_count table at) c.1 (glyph_sets c.0 table sets)))))
 
 -- ---- format 2
 
 -- the sets of classes from 0 on, each with its offset
-abbrev pub class_sets : List ℕ → ArrayPlace → List (GlyphRow ℕ)
+abbrev pub class_sets : List ℕ → ElementArray → List (GlyphRow ℕ)
 class_sets table sets = covered_rows word_row (glyph_run 0 sets.count) (words_of table sets)
 
 -- an array of the offsets of the sets of classes. A set takes a row of room
 abbrev pub class_rules_at : Bool → ℕ → List ℕ → ℕ → ℕ → ℕ → Result (List (SequenceRule ℕ) × ℕ) TableFault
-class_rules_at chained lookup_count table base at room = and_then (counted_array 2 0 table at) (λ sets. and_then (taken room sets.count)
+class_rules_at chained lookup_count table base at room = and_then (counted_array 2 0 table at) (λ sets. and_then (room_after room sets.count)
     (λ left. rules_of_sets (rules_at_offset chained lookup_count table base) left (class_sets table sets)))
 
 -- the classes of the class definition table whose offset stands at an offset, class 0 for each glyph where it is null
@@ -87,12 +87,12 @@ class_context_at chained lookup_count room table at = and_then (need table at (i
 -- ---- format 3
 
 -- the coverages of an array of offsets
-abbrev pub coverages_of : List ℕ → ℕ → ArrayPlace → ℕ → Result (List (List ℕ) × ℕ) TableFault
+abbrev pub coverages_of : List ℕ → ℕ → ElementArray → ℕ → Result (List (List ℕ) × ℕ) TableFault
 coverages_of table base a room = tables_at [] coverage_at table base a.at a.count room
 
--- the rule of format 3, by the places of its arrays
-abbrev pub coverage_rule : ℕ → List ℕ → ℕ → RulePlaces → ℕ → Result (SequenceRule (List ℕ) × ℕ) TableFault
-coverage_rule lookup_count table base p room = and_then (taken room p.records.count) (λ left. and_then (coverages_of table base p.backtrack left)
+-- the rule of format 3, by its arrays
+abbrev pub coverage_rule : ℕ → List ℕ → ℕ → RuleArrays → ℕ → Result (SequenceRule (List ℕ) × ℕ) TableFault
+coverage_rule lookup_count table base p room = and_then (room_after room p.records.count) (λ left. and_then (coverages_of table base p.backtrack left)
     (λ backtrack. and_then (coverages_of table base p.input backtrack.1) (λ input. and_then (coverages_of table base p.lookahead input.1)
     (λ lookahead. Ok (
       record {
@@ -106,7 +106,7 @@ coverage_rule lookup_count table base p room = and_then (taken room p.records.co
 
 -- format 3: one rule, and none where there is no input; its arrays from 2 on
 abbrev pub coverage_context_at : Bool → ℕ → ℕ → List ℕ → ℕ → Result (List (SequenceRule (List ℕ)) × ℕ) TableFault
-coverage_context_at chained lookup_count room table at = and_then (places_at chained 0 table (at + 2))
+coverage_context_at chained lookup_count room table at = and_then (arrays_at chained 0 table (at + 2))
     (λ p. if p.input.count == 0 then Ok ([], room) else and_then (coverage_rule lookup_count table at p room) (λ r. Ok (r.0 ∷ [], r.1)))
 
 -- ---- all

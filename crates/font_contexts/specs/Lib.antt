@@ -1,3 +1,3 @@
-pub mod Places
+pub mod Arrays
 pub mod Rules
 pub mod Contexts

@@ -2,7 +2,7 @@
 use Rattle.std.specs.Prelude.{ℕ, ◌+◌, nat_lt, Bool, List, [], ◌∷◌, filter, Result, Ok}
 use Rattle.font_bytes.specs.declared.fault.TableFault.{TableFault}
 use Rattle.font_bytes.specs.Results.{and_then}
-use Rattle.font_bytes.specs.Room.{taken}
+use Rattle.font_bytes.specs.Room.{room_after}
 use Rattle.font_bytes.specs.Words.{word}
 use Rattle.font_bytes.specs.Records.{records}
 use Rattle.font_common.specs.Offsets.{after, list_at, value_at_offset}
@@ -10,9 +10,9 @@ use Rattle.font_common.specs.Words.{words_at}
 use Rattle.layout_common.specs.declared.glyph_row.GlyphRow.{GlyphRow}
 use Rattle.layout_tables.specs.declared.context.SequenceLookupRecord.{SequenceLookupRecord}
 use Rattle.layout_tables.specs.declared.context.SequenceRule.{SequenceRule}
-use Rattle.font_contexts.specs.declared.places.ArrayPlace.{ArrayPlace}
-use Rattle.font_contexts.specs.declared.places.RulePlaces.{RulePlaces}
-use Rattle.font_contexts.specs.Places.{element_count, places_at}
+use Rattle.font_contexts.specs.declared.arrays.ElementArray.{ElementArray}
+use Rattle.font_contexts.specs.declared.arrays.RuleArrays.{RuleArrays}
+use Rattle.font_contexts.specs.Arrays.{element_count, arrays_at}
 
 -- SequenceLookupRecord: sequenceIndex at 0, lookupListIndex at 2
 abbrev pub lookup_record : List ℕ → ℕ → SequenceLookupRecord
@@ -23,15 +23,15 @@ abbrev pub known_records : ℕ → List SequenceLookupRecord → List SequenceLo
 known_records lookup_count rs = filter (λ r. nat_lt r.lookup_index lookup_count) rs
 
 -- the lookup records of an array
-abbrev pub lookup_records : ℕ → List ℕ → ArrayPlace → List SequenceLookupRecord
+abbrev pub lookup_records : ℕ → List ℕ → ElementArray → List SequenceLookupRecord
 lookup_records lookup_count table a = known_records lookup_count (records (lookup_record table) 4 a.at a.count)
 
 -- the glyphs or classes of an array
-abbrev pub words_of : List ℕ → ArrayPlace → List ℕ
+abbrev pub words_of : List ℕ → ElementArray → List ℕ
 words_of table a = words_at table a.at a.count
 
 -- a rule whose input begins with an item that its table leaves out
-abbrev pub rule_of : ℕ → ℕ → List ℕ → RulePlaces → SequenceRule ℕ
+abbrev pub rule_of : ℕ → ℕ → List ℕ → RuleArrays → SequenceRule ℕ
 rule_of lookup_count first table p = record {
   backtrack = words_of table p.backtrack;
   input = first ∷ words_of table p.input;
@@ -42,7 +42,7 @@ rule_of lookup_count first table p = record {
 -- the rule at an offset, and the room that the elements of its arrays leave
 abbrev pub rule_at : Bool → ℕ → ℕ → ℕ → List ℕ → ℕ → Result (SequenceRule ℕ × ℕ) TableFault
 rule_at chained lookup_count first room table at =
-    and_then (places_at chained 1 table at) (λ p. and_then (taken room (element_count p)) (λ left. Ok (rule_of lookup_count first table p, left)))
+    and_then (arrays_at chained 1 table at) (λ p. and_then (room_after room (element_count p)) (λ left. Ok (rule_of lookup_count first table p, left)))
 
 -- what a null offset of a rule leads to: a rule of the first item alone, without lookups
 abbrev pub empty_rule : ℕ → SequenceRule ℕ

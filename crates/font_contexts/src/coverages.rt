@@ -3,7 +3,7 @@ ghost use Rattle.std.specs.Prelude.{◌≡◌, ◌≢◌, ◌≤◌, ◌+◌, �
 ghost use Rattle.font_bytes.specs.declared.fault.TableFault.{TableFault};
 ghost use Rattle.font_contexts.specs.Contexts.{coverage_context_at, coverage_rule, coverages_of};
 
-use crate::places::{ArrayPlace, RulePlaces, places_at};
+use crate::arrays::{ElementArray, RuleArrays, arrays_at};
 use crate::rules::read_records;
 use font_bytes::fault::TableFault;
 use font_bytes::room::Room;
@@ -18,49 +18,49 @@ fn read_coverages(
     alloc: Global,
     table: &[u8],
     base: usize,
-    place: ArrayPlace,
+    array: ElementArray,
     room: &mut Room,
 ) -> Result<Array<Coverage>, TableFault>
     requires base_within { base ≤ length table.now }
-    requires within { place.at + 2 * place.count ≤ length table.now }
-    ensures ok { IfOk result (λ v. coverages_of table.now base place room.old.left ≡ Ok (v, room.new.left)) }
-    ensures refused { IfErr result (λ e. e ≢ TableFault.OutOfMemory → coverages_of table.now base place room.old.left ≡ Err e) }
+    requires within { array.at + 2 * array.count ≤ length table.now }
+    ensures ok { IfOk result (λ v. coverages_of table.now base array room.old.left ≡ Ok (v, room.new.left)) }
+    ensures refused { IfErr result (λ e. e ≢ TableFault.OutOfMemory → coverages_of table.now base array room.old.left ≡ Err e) }
 {
     let coverages = read_tables(
         &CoverageReader,
         alloc,
         table,
         base,
-        place.at,
-        place.count,
+        array.at,
+        array.count,
         room,
     )?;
     Ok(Array::new(coverages))
 }
 
-/// Reads the rule of format 3, by the places of its arrays.
+/// Reads the rule of format 3, by its arrays.
 fn read_coverage_rule(
     alloc: Global,
     lookup_count: usize,
     table: &[u8],
     base: usize,
-    places: RulePlaces,
+    arrays: RuleArrays,
     room: &mut Room,
 ) -> Result<SequenceRule<Coverage>, TableFault>
     requires base_within { base ≤ length table.now }
-    requires backtrack { places.backtrack.at + 2 * places.backtrack.count ≤ length table.now }
-    requires input { places.input.at + 2 * places.input.count ≤ length table.now }
-    requires lookahead { places.lookahead.at + 2 * places.lookahead.count ≤ length table.now }
-    requires records { places.records.at + 4 * places.records.count ≤ length table.now }
-    ensures ok { IfOk result (λ r. coverage_rule lookup_count table.now base places room.old.left ≡ Ok (r, room.new.left)) }
+    requires backtrack { arrays.backtrack.at + 2 * arrays.backtrack.count ≤ length table.now }
+    requires input { arrays.input.at + 2 * arrays.input.count ≤ length table.now }
+    requires lookahead { arrays.lookahead.at + 2 * arrays.lookahead.count ≤ length table.now }
+    requires records { arrays.records.at + 4 * arrays.records.count ≤ length table.now }
+    ensures ok { IfOk result (λ r. coverage_rule lookup_count table.now base arrays room.old.left ≡ Ok (r, room.new.left)) }
     ensures refused { IfErr result (λ e. e ≢ TableFault.OutOfMemory
-        → coverage_rule lookup_count table.now base places room.old.left ≡ Err e) }
+        → coverage_rule lookup_count table.now base arrays room.old.left ≡ Err e) }
 {
-    room.take(places.records.count)?;
-    let records = read_records(alloc, table, places.records, lookup_count)?;
-    let backtrack = read_coverages(alloc, table, base, places.backtrack, room)?;
-    let input = read_coverages(alloc, table, base, places.input, room)?;
-    let lookahead = read_coverages(alloc, table, base, places.lookahead, room)?;
+    room.take(arrays.records.count)?;
+    let records = read_records(alloc, table, arrays.records, lookup_count)?;
+    let backtrack = read_coverages(alloc, table, base, arrays.backtrack, room)?;
+    let input = read_coverages(alloc, table, base, arrays.input, room)?;
+    let lookahead = read_coverages(alloc, table, base, arrays.lookahead, room)?;
     Ok(SequenceRule {
         backtrack,
         input,
@@ -83,11 +83,11 @@ pub fn read_coverage_context(
     ensures refused { IfErr result (λ e. e ≢ TableFault.OutOfMemory
         → coverage_context_at chained lookup_count room.old.left table.now at ≡ Err e) }
 {
-    let places = places_at(chained, 0, table, at + 2)?;
+    let arrays = arrays_at(chained, 0, table, at + 2)?;
     let mut rules = Vec::new(alloc);
-    if places.input.count == 0 {
+    if arrays.input.count == 0 {
         return Ok(Array::new(rules));
     }
-    rules.push(read_coverage_rule(alloc, lookup_count, table, at, places, room)?)?;
+    rules.push(read_coverage_rule(alloc, lookup_count, table, at, arrays, room)?)?;
     Ok(Array::new(rules))
 }

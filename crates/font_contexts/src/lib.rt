@@ -2,10 +2,10 @@
 //! sequence context formats 1 to 3).
 #![tactic(auto)]
 
+pub mod arrays;
 pub mod classes;
 pub mod contexts;
 pub mod coverages;
-pub mod places;
 pub mod rules;
 pub mod sets;
 

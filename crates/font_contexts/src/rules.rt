@@ -3,7 +3,7 @@ ghost use Rattle.std.specs.Prelude.{◌≡◌, ◌≢◌, ◌≤◌, ◌+◌, �
 ghost use Rattle.font_bytes.specs.declared.fault.TableFault.{TableFault};
 ghost use Rattle.font_contexts.specs.Rules.{empty_rule, known_records, lookup_record, lookup_records, rule_at, rule_of, words_of};
 
-use crate::places::{ArrayPlace, RulePlaces, element_count, places_at};
+use crate::arrays::{ElementArray, RuleArrays, arrays_at, element_count};
 use font_bytes::fault::TableFault;
 use font_bytes::room::Room;
 use font_bytes::words::word;
@@ -43,66 +43,66 @@ fn push_known(
 pub fn read_records(
     alloc: Global,
     table: &[u8],
-    place: ArrayPlace,
+    array: ElementArray,
     lookup_count: usize,
 ) -> Result<Array<SequenceLookupRecord>, TableFault>
-    requires { place.at + 4 * place.count ≤ length table.now }
-    ensures ok { IfOk result (λ v. v ≡ lookup_records lookup_count table.now place) }
+    requires { array.at + 4 * array.count ≤ length table.now }
+    ensures ok { IfOk result (λ v. v ≡ lookup_records lookup_count table.now array) }
     ensures refused { IfErr result (λ e. e ≡ TableFault.OutOfMemory) }
 {
-    let mut records = Vec::with_capacity(alloc, place.count)?;
-    for index in 0..place.count {
-        let lookup = lookup_record(table, place.at + 4 * index);
+    let mut records = Vec::with_capacity(alloc, array.count)?;
+    for index in 0..array.count {
+        let lookup = lookup_record(table, array.at + 4 * index);
         push_known(&mut records, lookup, lookup_count)?;
     }
     Ok(Array::new(records))
 }
 
 /// Reads the glyphs or classes of an array.
-fn read_items(alloc: Global, table: &[u8], place: ArrayPlace) -> Result<Array<u16>, TableFault>
-    requires { place.at + 2 * place.count ≤ length table.now }
-    ensures ok { IfOk result (λ v. v ≡ words_of table.now place) }
+fn read_items(alloc: Global, table: &[u8], array: ElementArray) -> Result<Array<u16>, TableFault>
+    requires { array.at + 2 * array.count ≤ length table.now }
+    ensures ok { IfOk result (λ v. v ≡ words_of table.now array) }
     ensures refused { IfErr result (λ e. e ≡ TableFault.OutOfMemory) }
 {
-    Ok(Array::new(read_words(alloc, table, place.at, place.count)?))
+    Ok(Array::new(read_words(alloc, table, array.at, array.count)?))
 }
 
 /// Reads the glyphs or classes of an input sequence after its first.
 fn read_input(
     alloc: Global,
     table: &[u8],
-    place: ArrayPlace,
+    array: ElementArray,
     first: u16,
 ) -> Result<Array<u16>, TableFault>
-    requires { place.at + 2 * place.count ≤ length table.now }
-    ensures ok { IfOk result (λ v. v ≡ first ∷ words_of table.now place) }
+    requires { array.at + 2 * array.count ≤ length table.now }
+    ensures ok { IfOk result (λ v. v ≡ first ∷ words_of table.now array) }
     ensures refused { IfErr result (λ e. e ≡ TableFault.OutOfMemory) }
 {
-    let mut items = Vec::with_capacity(alloc, place.count + 1)?;
+    let mut items = Vec::with_capacity(alloc, array.count + 1)?;
     items.push(first)?;
-    push_words(&mut items, table, place.at, place.count)?;
+    push_words(&mut items, table, array.at, array.count)?;
     Ok(Array::new(items))
 }
 
-/// Reads a rule by the places of its arrays.
+/// Reads a rule by its arrays.
 fn read_rule_of(
     alloc: Global,
     table: &[u8],
-    places: RulePlaces,
+    arrays: RuleArrays,
     first: u16,
     lookup_count: usize,
 ) -> Result<SequenceRule<u16>, TableFault>
-    requires backtrack { places.backtrack.at + 2 * places.backtrack.count ≤ length table.now }
-    requires input { places.input.at + 2 * places.input.count ≤ length table.now }
-    requires lookahead { places.lookahead.at + 2 * places.lookahead.count ≤ length table.now }
-    requires records { places.records.at + 4 * places.records.count ≤ length table.now }
-    ensures ok { IfOk result (λ r. r ≡ rule_of lookup_count first table.now places) }
+    requires backtrack { arrays.backtrack.at + 2 * arrays.backtrack.count ≤ length table.now }
+    requires input { arrays.input.at + 2 * arrays.input.count ≤ length table.now }
+    requires lookahead { arrays.lookahead.at + 2 * arrays.lookahead.count ≤ length table.now }
+    requires records { arrays.records.at + 4 * arrays.records.count ≤ length table.now }
+    ensures ok { IfOk result (λ r. r ≡ rule_of lookup_count first table.now arrays) }
     ensures refused { IfErr result (λ e. e ≡ TableFault.OutOfMemory) }
 {
-    let backtrack = read_items(alloc, table, places.backtrack)?;
-    let input = read_input(alloc, table, places.input, first)?;
-    let lookahead = read_items(alloc, table, places.lookahead)?;
-    let records = read_records(alloc, table, places.records, lookup_count)?;
+    let backtrack = read_items(alloc, table, arrays.backtrack)?;
+    let input = read_input(alloc, table, arrays.input, first)?;
+    let lookahead = read_items(alloc, table, arrays.lookahead)?;
+    let records = read_records(alloc, table, arrays.records, lookup_count)?;
     Ok(SequenceRule {
         backtrack,
         input,
@@ -134,9 +134,9 @@ impl TableReader for RuleReader {
         at: usize,
         room: &mut Room,
     ) -> Result<SequenceRule<u16>, TableFault> {
-        let places = places_at(self.chained, 1, bytes, at)?;
-        room.take(element_count(places))?;
-        read_rule_of(alloc, bytes, places, self.first, self.lookup_count)
+        let arrays = arrays_at(self.chained, 1, bytes, at)?;
+        room.take(element_count(arrays))?;
+        read_rule_of(alloc, bytes, arrays, self.first, self.lookup_count)
     }
 
     fn null(&self, alloc: Global) -> Result<SequenceRule<u16>, TableFault> {

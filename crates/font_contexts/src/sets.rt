@@ -5,12 +5,12 @@ ghost use Rattle.font_common.specs.Offsets.{after, list_at, tables_at};
 ghost use Rattle.font_contexts.specs.Rules.{empty_rule, rule_at, rule_set_at, rules_at_offset, rules_of_sets};
 ghost use Rattle.font_contexts.specs.Contexts.{class_rules_at, glyph_rules_at, glyph_sets, class_sets};
 
-use crate::places::counted_array;
+use crate::arrays::counted_array;
 use crate::rules::RuleReader;
 use font_bytes::fault::TableFault;
 use font_bytes::room::Room;
 use font_bytes::words::{need, word};
-use font_common::coverage::{numbers_below, read_covered};
+use font_common::coverage::{numbers_below, read_glyphs_in_room};
 use font_common::offsets::read_at_offset;
 use font_common::rows::first_rows;
 use font_common::words::read_word_rows;
@@ -114,7 +114,7 @@ pub fn read_glyph_rules(
     need(table, at, 4)?;
     let sets = counted_array(2, 0, table, at + 4)?;
     room.take(sets.count)?;
-    let glyphs = read_covered(alloc, table, at, u32::from(word(table, at + 2)), room)?;
+    let glyphs = read_glyphs_in_room(alloc, table, at, u32::from(word(table, at + 2)), room)?;
     let rows = read_word_rows(alloc, table, sets.at, sets.count, &glyphs)?;
     let firsts = first_rows(alloc, rows)?;
     read_sets(

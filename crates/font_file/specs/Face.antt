@@ -21,7 +21,7 @@ use Rattle.font_file.specs.declared.headers.Headers.{Headers}
 use Rattle.font_file.specs.declared.parts.FontParts.{FontParts}
 use Rattle.font_file.specs.Advances.{bytes_or_none, metrics_in, vertical_rows}
 use Rattle.font_file.specs.Characters.{Characters, characters_in}
-use Rattle.font_file.specs.Drawn.{drawn_in, names_in}
+use Rattle.font_file.specs.Outlines.{outlines_in, names_in}
 use Rattle.font_file.specs.Found.{table_in}
 use Rattle.font_file.specs.Headers.{headers_in}
 use Rattle.font_file.specs.Layouts.{layouts_in}
@@ -32,8 +32,8 @@ origins_by h boxes metrics None = Ok (box_origins boxes (bytes_or_none metrics.0
 origins_by h boxes metrics (Some table) = in_table (Some Vorg) (vorg_origins table h.line.ascender h.count)
 
 -- vertical origins and extents of glyphs by the boxes of their outlines
-abbrev pub placed : List ℕ → ℕ → Headers → List GlyphBox → Option (List ℕ) × ℕ → Result (List (GlyphRow ℤ) × List (GlyphRow hb_glyph_extents_t)) FontFault
-placed bytes index h boxes vertical = and_then (and_then (table_in bytes index Vorg) (origins_by h boxes vertical)) (λ origins. Ok (origins, extent_rows boxes h.count))
+abbrev pub origins_and_extents : List ℕ → ℕ → Headers → List GlyphBox → Option (List ℕ) × ℕ → Result (List (GlyphRow ℤ) × List (GlyphRow hb_glyph_extents_t)) FontFault
+origins_and_extents bytes index h boxes vertical = and_then (and_then (table_in bytes index Vorg) (origins_by h boxes vertical)) (λ origins. Ok (origins, extent_rows boxes h.count))
 
 -- vertical origins, extents and names of glyphs, by the tables of metrics of both directions
 abbrev pub Drawing : Type 0
@@ -42,9 +42,9 @@ Drawing = (List (GlyphRow ℤ) × List (GlyphRow hb_glyph_extents_t)) × List Gl
 -- vertical origins, extents and names of the glyphs of the font with an index
 abbrev pub drawing_in : FontParts → List ℕ → ℕ → Headers → Option (List ℕ) × ℕ → Option (List ℕ) × ℕ → Result Drawing FontFault
 drawing_in parts bytes index h horizontal vertical =
-    and_then (drawn_in parts bytes index h horizontal) (λ drawn.
-    and_then (placed bytes index h drawn.0 vertical) (λ rows.
-    and_then (names_in parts bytes index h.count drawn.1) (λ names.
+    and_then (outlines_in parts bytes index h horizontal) (λ outlines.
+    and_then (origins_and_extents bytes index h outlines.0 vertical) (λ rows.
+    and_then (names_in parts bytes index h.count outlines.1) (λ names.
     Ok (rows, names))))
 
 -- advances of both directions, vertical origins, extents and names of glyphs

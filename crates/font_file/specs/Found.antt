@@ -18,5 +18,5 @@ present table (Some bytes) = Ok bytes
 present table None = Err (record { table = Some table; cause = Missing })
 
 -- the bytes of a table that a font has to have
-abbrev pub required_in : List ℕ → ℕ → FontTable → Result (List ℕ) FontFault
-required_in bytes index table = and_then (table_in bytes index table) (present table)
+abbrev pub required_table : List ℕ → ℕ → FontTable → Result (List ℕ) FontFault
+required_table bytes index table = and_then (table_in bytes index table) (present table)

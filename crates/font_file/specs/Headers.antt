@@ -8,7 +8,7 @@ use Rattle.font_metrics.specs.declared.line.LineMetrics.{LineMetrics}
 use Rattle.font_metrics.specs.Header.{glyph_count, has_long_offsets, units_per_em}
 use Rattle.font_metrics.specs.Line.{line_metrics}
 use Rattle.font_file.specs.declared.headers.Headers.{Headers}
-use Rattle.font_file.specs.Found.{required_in, table_in}
+use Rattle.font_file.specs.Found.{required_table, table_in}
 
 -- the ascender and the descender of a line, by OS/2 and hhea; a fault of OS/2 comes first
 abbrev pub line_in : List ℕ → ℕ → Result LineMetrics FontFault
@@ -21,10 +21,10 @@ line_in bytes index =
 -- units of the em and the form of loca (head), the number of glyphs (maxp), the line
 abbrev pub headers_in : List ℕ → ℕ → Result Headers FontFault
 headers_in bytes index =
-    and_then (required_in bytes index Head) (λ head.
+    and_then (required_table bytes index Head) (λ head.
     and_then (in_table (Some Head) (units_per_em head)) (λ upem.
     and_then (in_table (Some Head) (has_long_offsets head)) (λ is_long.
-    and_then (required_in bytes index Maxp) (λ maxp.
+    and_then (required_table bytes index Maxp) (λ maxp.
     and_then (in_table (Some Maxp) (glyph_count maxp)) (λ count.
     and_then (line_in bytes index) (λ line.
     Ok (record { upem = upem; is_long = is_long; count = count; line = line })))))))

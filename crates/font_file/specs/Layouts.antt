@@ -10,7 +10,7 @@ use Rattle.font_bytes.specs.declared.table_names.FontTable.TheVariants.{Gdef, Gs
 use Rattle.font_bytes.specs.Fault.{in_table}
 use Rattle.font_bytes.specs.Results.{and_then}
 use Rattle.font_lists.specs.Definition.{definition_at}
-use Rattle.font_kern.specs.Kern.{kerned_at}
+use Rattle.font_kern.specs.Kern.{gpos_with_kern}
 use Rattle.font_layout.specs.Layout.{gpos_at, gsub_at}
 use Rattle.font_file.specs.Found.{table_in}
 use Rattle.font_file.specs.Rooms.{layout_room}
@@ -39,21 +39,21 @@ positioning_of sets None = Ok None
 positioning_of sets (Some table) = and_then (in_table (Some Gpos) (without_room (gpos_at sets layout_room table))) (λ t. Ok (Some t))
 
 -- GPOS with the table kern, if there is one, by the font's characters
-abbrev pub kerned_by : List CharacterRow → Option PositioningTable → Option (List ℕ) → Result (Option PositioningTable) FontFault
-kerned_by characters gpos None = Ok gpos
-kerned_by characters gpos (Some table) = in_table (Some Kern) (without_room (kerned_at layout_room table characters gpos))
+abbrev pub with_kern : List CharacterRow → Option PositioningTable → Option (List ℕ) → Result (Option PositioningTable) FontFault
+with_kern characters gpos None = Ok gpos
+with_kern characters gpos (Some table) = in_table (Some Kern) (without_room (gpos_with_kern layout_room table characters gpos))
 
 -- GPOS of the font with an index, with the table kern
-abbrev pub kerned_in : List ℕ → ℕ → List CharacterRow → ℕ → Result (Option PositioningTable) FontFault
-kerned_in bytes index characters sets =
+abbrev pub gpos_in : List ℕ → ℕ → List CharacterRow → ℕ → Result (Option PositioningTable) FontFault
+gpos_in bytes index characters sets =
     and_then (and_then (table_in bytes index Gpos) (positioning_of sets)) (λ gpos.
-    and_then (table_in bytes index Kern) (kerned_by characters gpos))
+    and_then (table_in bytes index Kern) (with_kern characters gpos))
 
 -- GSUB and GPOS of the font with an index
 abbrev pub tables_in : List ℕ → ℕ → List CharacterRow → ℕ → Result (Option SubstitutionTable × Option PositioningTable) FontFault
 tables_in bytes index characters sets =
     and_then (and_then (table_in bytes index Gsub) (substitution_of sets)) (λ gsub.
-    and_then (kerned_in bytes index characters sets) (λ gpos.
+    and_then (gpos_in bytes index characters sets) (λ gpos.
     Ok (gsub, gpos)))
 
 -- the three of the font with an index

@@ -4,7 +4,7 @@ pub mod Parts
 pub mod Rooms
 pub mod Headers
 pub mod Advances
-pub mod Drawn
+pub mod Outlines
 pub mod Characters
 pub mod Layouts
 pub mod Face

@@ -3,8 +3,8 @@ ghost use Rattle.std.specs.Prelude.{◌≡◌, ◌≢◌, IfOk, IfErr, Ok, Err, 
 ghost use Rattle.font_bytes.specs.declared.fault.TableFault.{TableFault};
 ghost use Rattle.font_file.specs.Characters.{characters_in, rows_of_table};
 
-use crate::drawn::FontFile;
 use crate::found::table_in;
+use crate::outlines::FontFile;
 use crate::rooms::CHARACTER_ROOM;
 use buffer_rows::{PagedRows, SortedRows};
 use font_bytes::fault::TableFault;

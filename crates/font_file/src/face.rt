@@ -8,15 +8,15 @@ ghost use Rattle.font_file.specs.Advances.{bytes_or_none, vertical_rows};
 ghost use Rattle.font_file.specs.Characters.{characters_in};
 ghost use Rattle.font_file.specs.Layouts.{layouts_in};
 ghost use Rattle.font_metrics.specs.Advances.{advance_rows};
-ghost use Rattle.font_file.specs.Face.{characters_and_layouts, drawing_in, face_in, fitting, metrics_of, origins_by, parts_in, placed};
+ghost use Rattle.font_file.specs.Face.{characters_and_layouts, drawing_in, face_in, fitting, metrics_of, origins_by, parts_in, origins_and_extents};
 ghost use Rattle.font_file.specs.Found.{table_in};
 
 use crate::advances::{Metrics, bytes_or_none, metrics_in, vertical_rows};
 use crate::characters::{Characters, characters_in};
-use crate::drawn::{Drawn, FontFile, drawn_in, names_in};
 use crate::found::table_in;
 use crate::headers::{Headers, headers_in};
 use crate::layouts::{Layouts, layouts_in};
+use crate::outlines::{FontFile, Outlines, names_in, outlines_in};
 use crate::parts::FontParts;
 use buffer_glyphs::names::hb_glyph_extents_t;
 use buffer_rows::SortedRows;
@@ -71,7 +71,7 @@ struct Drawing {
 }
 
 /// Vertical origins and boxes of glyphs, by the boxes of their outlines.
-fn placed(
+fn origins_and_extents(
     alloc: Global,
     file: FontFile<'_>,
     headers: Headers,
@@ -79,9 +79,9 @@ fn placed(
     vertical: Metrics<'_>,
 ) -> Result<(Rows<i16>, Rows<hb_glyph_extents_t>), FontFault>
     requires { 4 * vertical.long ≤ length (bytes_or_none (option_copied vertical.table)) }
-    ensures ok { IfOk result (λ p. placed file.entry.bytes.now file.entry.index headers boxes.now
+    ensures ok { IfOk result (λ p. origins_and_extents file.entry.bytes.now file.entry.index headers boxes.now
         (option_copied vertical.entry.table, vertical.entry.long) ≡ Ok (p.0, p.1)) }
-    ensures refused { IfErr result (λ e. e.cause ≢ TableFault.OutOfMemory → placed file.entry.bytes.now file.entry.index
+    ensures refused { IfErr result (λ e. e.cause ≢ TableFault.OutOfMemory → origins_and_extents file.entry.bytes.now file.entry.index
         headers boxes.now (option_copied vertical.entry.table, vertical.entry.long) ≡ Err e) }
 {
     let origins = origins_in(alloc, file, headers, boxes, vertical)?;
@@ -112,10 +112,10 @@ fn drawing_in(
         file.entry.index headers (option_copied horizontal.entry.table, horizontal.entry.long)
         (option_copied vertical.entry.table, vertical.entry.long) ≡ Err e) }
 {
-    let drawn = drawn_in(alloc, parts, file, headers, horizontal)?;
-    let Drawn { boxes, names } = drawn;
-    let (origins, extents) = match placed(alloc, file, headers, &boxes, vertical) {
-        Ok(placed) => placed,
+    let outlines = outlines_in(alloc, parts, file, headers, horizontal)?;
+    let Outlines { boxes, names } = outlines;
+    let (origins, extents) = match origins_and_extents(alloc, file, headers, &boxes, vertical) {
+        Ok(origins_and_extents) => origins_and_extents,
         Err(fault) => {
             drop(names);
             return Err(fault);

@@ -1,7 +1,7 @@
 //! The bytes of a font's tables.
 ghost use Rattle.std.specs.Prelude.{◌≡◌, IfOk, IfErr, Ok, Err};
 ghost use Rattle.std.specs.Option.{option_copied};
-ghost use Rattle.font_file.specs.Found.{required_in, table_in};
+ghost use Rattle.font_file.specs.Found.{required_table, table_in};
 
 use font_bytes::directory::font_table;
 use font_bytes::fault::TableFault;
@@ -23,9 +23,13 @@ pub(crate) fn table_in(
 }
 
 /// The bytes of a table that a font has to have.
-pub(crate) fn required_in(bytes: &[u8], index: usize, table: FontTable) -> Result<&[u8], FontFault>
-    ensures ok { IfOk result (λ t. required_in bytes.entry.now index table ≡ Ok t.now) }
-    ensures refused { IfErr result (λ e. required_in bytes.entry.now index table ≡ Err e) }
+pub(crate) fn required_table(
+    bytes: &[u8],
+    index: usize,
+    table: FontTable,
+) -> Result<&[u8], FontFault>
+    ensures ok { IfOk result (λ t. required_table bytes.entry.now index table ≡ Ok t.now) }
+    ensures refused { IfErr result (λ e. required_table bytes.entry.now index table ≡ Err e) }
 {
     match table_in(bytes, index, table)? {
         Some(found) => Ok(found),

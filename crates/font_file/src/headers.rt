@@ -2,7 +2,7 @@
 ghost use Rattle.std.specs.Prelude.{◌≡◌};
 ghost use Rattle.font_file.specs.Headers.{headers_in, line_in};
 
-use crate::found::{required_in, table_in};
+use crate::found::{required_table, table_in};
 use font_bytes::font_fault::in_table;
 use font_bytes::{FontFault, FontTable};
 use font_metrics::{LineMetrics, glyph_count, has_long_offsets, line_metrics, units_per_em};
@@ -34,10 +34,10 @@ fn line_in(bytes: &[u8], index: usize) -> Result<LineMetrics, FontFault>
 pub(crate) fn headers_in(bytes: &[u8], index: usize) -> Result<Headers, FontFault>
     ensures { result ≡ headers_in bytes.now index }
 {
-    let head = required_in(bytes, index, FontTable::Head)?;
+    let head = required_table(bytes, index, FontTable::Head)?;
     let upem = in_table(Some(FontTable::Head), units_per_em(head))?;
     let is_long = in_table(Some(FontTable::Head), has_long_offsets(head))?;
-    let maxp = required_in(bytes, index, FontTable::Maxp)?;
+    let maxp = required_table(bytes, index, FontTable::Maxp)?;
     let count = in_table(Some(FontTable::Maxp), glyph_count(maxp))?;
     let line = line_in(bytes, index)?;
     Ok(Headers {

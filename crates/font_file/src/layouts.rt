@@ -4,10 +4,10 @@ ghost use Rattle.font_bytes.specs.declared.fault.TableFault.{TableFault};
 ghost use Rattle.font_bytes.specs.declared.table_names.FontTable.{FontTable};
 ghost use Rattle.font_bytes.specs.Results.{and_then};
 ghost use Rattle.font_file.specs.Found.{table_in};
-ghost use Rattle.font_file.specs.Layouts.{definition_of, kerned_by, kerned_in, layouts_in, no_definition, positioning_of, substitution_of, tables_in};
+ghost use Rattle.font_file.specs.Layouts.{definition_of, with_kern, gpos_in, layouts_in, no_definition, positioning_of, substitution_of, tables_in};
 
-use crate::drawn::FontFile;
 use crate::found::table_in;
+use crate::outlines::FontFile;
 use crate::rooms::LAYOUT_ROOM;
 use font_bytes::{FontFault, FontTable};
 use font_kern::with_kerning;
@@ -99,19 +99,19 @@ fn positioning_in(
 }
 
 /// GPOS of a font, with its table kern.
-fn kerned_in(
+fn gpos_in(
     alloc: Global,
     file: FontFile<'_>,
     characters: &[CharacterRow],
     set_count: usize,
 ) -> Result<Option<PositioningTable>, FontFault>
-    ensures ok { IfOk result (λ t. kerned_in file.entry.bytes.now file.entry.index characters.now set_count ≡ Ok t) }
+    ensures ok { IfOk result (λ t. gpos_in file.entry.bytes.now file.entry.index characters.now set_count ≡ Ok t) }
     ensures refused { IfErr result (λ e. e.cause ≢ TableFault.OutOfMemory
-        → kerned_in file.entry.bytes.now file.entry.index characters.now set_count ≡ Err e) }
+        → gpos_in file.entry.bytes.now file.entry.index characters.now set_count ≡ Err e) }
 {
     let gpos = positioning_in(alloc, file, set_count)?;
     match table_in(file.bytes, file.index, FontTable::Kern) {
-        Ok(Some(table)) => kerned_by(alloc, table, characters, gpos),
+        Ok(Some(table)) => with_kern(alloc, table, characters, gpos),
         Ok(None) => Ok(gpos),
         Err(fault) => {
             drop(gpos);
@@ -121,15 +121,15 @@ fn kerned_in(
 }
 
 /// GPOS with a table kern.
-fn kerned_by(
+fn with_kern(
     alloc: Global,
     table: &[u8],
     characters: &[CharacterRow],
     gpos: Option<PositioningTable>,
 ) -> Result<Option<PositioningTable>, FontFault>
-    ensures ok { IfOk result (λ t. kerned_by characters.now gpos (Some table.now) ≡ Ok t) }
+    ensures ok { IfOk result (λ t. with_kern characters.now gpos (Some table.now) ≡ Ok t) }
     ensures refused { IfErr result (λ e. e.cause ≢ TableFault.OutOfMemory
-        → kerned_by characters.now gpos (Some table.now) ≡ Err e) }
+        → with_kern characters.now gpos (Some table.now) ≡ Err e) }
 {
     let mut room = LAYOUT_ROOM;
     match with_kerning(alloc, table, characters, gpos, &mut room) {
@@ -153,7 +153,7 @@ fn tables_in(
         → tables_in file.entry.bytes.now file.entry.index characters.now set_count ≡ Err e) }
 {
     let gsub = substitution_in(alloc, file, set_count)?;
-    match kerned_in(alloc, file, characters, set_count) {
+    match gpos_in(alloc, file, characters, set_count) {
         Ok(gpos) => Ok((gsub, gpos)),
         Err(fault) => {
             drop(gsub);

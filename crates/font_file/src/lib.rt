@@ -5,11 +5,11 @@
 mod advances;
 mod characters;
 mod count;
-mod drawn;
 mod face;
 mod found;
 mod headers;
 mod layouts;
+mod outlines;
 mod parts;
 mod rooms;
 

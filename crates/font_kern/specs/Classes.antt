@@ -4,8 +4,8 @@ use Rattle.std.specs.List.{flat_map}
 use Rattle.std.specs.Ordering.{nat_cmp}
 use Rattle.font_bytes.specs.declared.fault.TableFault.{TableFault}
 use Rattle.font_bytes.specs.Results.{and_then}
-use Rattle.font_bytes.specs.Room.{taken}
-use Rattle.font_bytes.specs.Words.{fits, need, word, signed}
+use Rattle.font_bytes.specs.Room.{room_after}
+use Rattle.font_bytes.specs.Words.{fits, need, word, signed_word}
 use Rattle.font_bytes.specs.Records.{records}
 use Rattle.layout_common.specs.declared.glyph_row.GlyphRow.{GlyphRow}
 use Rattle.layout_common.specs.Coverage.{in_order}
@@ -15,7 +15,7 @@ use Rattle.layout_tables.specs.declared.pair.Class1Record.{Class1Record}
 use Rattle.layout_tables.specs.declared.pair.PairPos.TheVariants.{Classes}
 use Rattle.font_kern.specs.declared.kerning.Kerning.{Kerning}
 use Rattle.font_kern.specs.declared.classes.ClassHeader.{ClassHeader}
-use Rattle.font_kern.specs.Order.{rising_only}
+use Rattle.font_common.specs.Rows.{first_rows}
 use Rattle.font_kern.specs.Pairs.{kern_values}
 
 -- rowWidth at 0 of what follows the header, then offsets from the subtable's start: leftClassTable, rightClassTable, array
@@ -41,7 +41,7 @@ glyphs_from first count = min count (65536 - first)
 
 -- a class table: firstGlyph at 0, nGlyphs at 2, from 4 on a value for each glyph; each takes a row of room
 abbrev pub class_list : ℕ → List ℕ → ℕ → Result (List (GlyphRow ℕ) × ℕ) TableFault
-class_list room table at = and_then (need table at 4) (λ _. and_then (taken room (word table (at + 2))) (λ left. and_then (need table (at + 4) (2 * word table (at + 2)))
+class_list room table at = and_then (need table at 4) (λ _. and_then (room_after room (word table (at + 2))) (λ left. and_then (need table (at + 4) (2 * word table (at + 2)))
     (λ _. Ok (listed_values table (at + 4) (word table at) (glyphs_from (word table at) (word table (at + 2))), left))))
 
 -- a left glyph's value is the offset of its row in the array, from the subtable's start: its class is the row
@@ -55,17 +55,17 @@ right_class h r = if nat_lt (r.value / 2) (h.width / 2) then record { glyph = r.
 
 -- the classes of left glyphs
 abbrev pub left_classes : ClassHeader → List (GlyphRow ℕ) → List (GlyphRow ℕ)
-left_classes h rows = rising_only nat_cmp (λ r. r.glyph) None (flat_map (left_class h) rows)
+left_classes h rows = first_rows nat_cmp (λ r. r.glyph) None (flat_map (left_class h) rows)
 
 -- the classes of right glyphs
 abbrev pub right_classes : ClassHeader → List (GlyphRow ℕ) → List (GlyphRow ℕ)
-right_classes h rows = rising_only nat_cmp (λ r. r.glyph) None (flat_map (right_class h) rows)
+right_classes h rows = first_rows nat_cmp (λ r. r.glyph) None (flat_map (right_class h) rows)
 
 -- ---- the array
 
 -- the distance at an offset, 0 past the table's end
 abbrev pub distance_at : List ℕ → ℕ → ℤ
-distance_at table at = if fits table at 2 then signed table at else pos 0
+distance_at table at = if fits table at 2 then signed_word table at else pos 0
 
 -- a row of records: for each step of a width that of the distance there
 abbrev pub class_record : Bool → List ℕ → ℕ → ℕ → ℕ → Class1Record
@@ -104,8 +104,8 @@ backward_kerning table h lefts rights = class_kerning (class_pairs (records (λ 
 -- the pairs of classes in the room that their records take, and all glyphs where those are first glyphs
 abbrev pub kerning_of_classes : Bool → ℕ → List ℕ → ClassHeader → List (GlyphRow ℕ) → List (GlyphRow ℕ) → Result (Kerning × ℕ) TableFault
 kerning_of_classes is_backward room table h lefts rights =
-    and_then (taken room (room_of_classes (class_count 0 lefts) (h.width / 2))) (λ left.
-    if is_backward then and_then (taken left 65536) (λ last. Ok (backward_kerning table h lefts rights, last))
+    and_then (room_after room (room_of_classes (class_count 0 lefts) (h.width / 2))) (λ left.
+    if is_backward then and_then (room_after left 65536) (λ last. Ok (backward_kerning table h lefts rights, last))
     else Ok (forward_kerning table h lefts rights, left))
 
 -- format 2: the header at an offset of a subtable, the lists of classes, the array

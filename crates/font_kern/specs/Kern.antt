@@ -90,6 +90,6 @@ kern_beside room table characters t =
 
 -- the bytes of the table kern, a font's characters and its GPOS: GPOS with the table kern for those language systems that lack the
 -- feature `kern`, and the room that is left
-abbrev pub kerned_at : ℕ → List ℕ → List CharacterRow → Option PositioningTable → Result (Option PositioningTable × ℕ) TableFault
-kerned_at room table characters None = kern_alone room table characters
-kerned_at room table characters (Some t) = and_then (kern_beside room table characters t) (λ k. Ok (some_table k))
+abbrev pub gpos_with_kern : ℕ → List ℕ → List CharacterRow → Option PositioningTable → Result (Option PositioningTable × ℕ) TableFault
+gpos_with_kern room table characters None = kern_alone room table characters
+gpos_with_kern room table characters (Some t) = and_then (kern_beside room table characters t) (λ k. Ok (some_table k))

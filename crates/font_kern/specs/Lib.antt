@@ -1,4 +1,3 @@
-pub mod Order
 pub mod Subtables
 pub mod Pairs
 pub mod Classes

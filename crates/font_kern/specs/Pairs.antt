@@ -4,15 +4,15 @@ use Rattle.std.specs.Int.{int_shr}
 use Rattle.std.specs.Ordering.{nat_cmp}
 use Rattle.font_bytes.specs.declared.fault.TableFault.{TableFault}
 use Rattle.font_bytes.specs.Results.{and_then}
-use Rattle.font_bytes.specs.Room.{taken}
-use Rattle.font_bytes.specs.Words.{need, word, signed}
+use Rattle.font_bytes.specs.Room.{room_after}
+use Rattle.font_bytes.specs.Words.{need, word, signed_word}
 use Rattle.font_bytes.specs.Records.{records}
 use Rattle.buffer_rows.specs.KeyOrder.{key_order}
 use Rattle.layout_tables.specs.declared.value.ValueRecord.{ValueRecord}
 use Rattle.layout_tables.specs.declared.pair.PairValues.{PairValues}
 use Rattle.layout_tables.specs.declared.pair.PairRow.{PairRow}
 use Rattle.layout_tables.specs.PairRows.{pair_order}
-use Rattle.font_kern.specs.Order.{rising_only}
+use Rattle.font_common.specs.Rows.{first_rows}
 
 -- ---- halves of a distance (HarfBuzz: hb_kern_machine_t)
 
@@ -40,12 +40,12 @@ kern_values is_backward distance =
 -- a pair: left at 0, right at 2, value at 4
 abbrev pub pair_row : Bool → List ℕ → ℕ → PairRow
 pair_row is_backward table at =
-    if is_backward then record { first = word table (at + 2); second = word table at; values = kern_values is_backward (signed table (at + 4)) }
-    else record { first = word table at; second = word table (at + 2); values = kern_values is_backward (signed table (at + 4)) }
+    if is_backward then record { first = word table (at + 2); second = word table at; values = kern_values is_backward (signed_word table (at + 4)) }
+    else record { first = word table at; second = word table (at + 2); values = kern_values is_backward (signed_word table (at + 4)) }
 
 -- nPairs at 0 of what follows the header, the pairs from 8 on; each takes a row of room
 abbrev pub pairs_at : Bool → ℕ → List ℕ → ℕ → Result (List PairRow × ℕ) TableFault
-pairs_at is_backward room table at = and_then (need table at 8) (λ _. and_then (taken room (word table at)) (λ left.
+pairs_at is_backward room table at = and_then (need table at 8) (λ _. and_then (room_after room (word table at)) (λ left.
     and_then (need table (at + 8) (6 * word table at)) (λ _. Ok (records (pair_row is_backward table) 6 (at + 8) (word table at), left))))
 
 -- the two glyphs of a pair as one number
@@ -54,8 +54,8 @@ pair_number r = r.first * 65536 + r.second
 
 -- pairs in the order of their glyphs; of pairs of the same glyphs the first one counts
 abbrev pub rows_of_pairs : List PairRow → List PairRow
-rows_of_pairs pairs = rising_only pair_order (λ r. (r.first, r.second)) None (key_order pair_number pairs)
+rows_of_pairs pairs = first_rows pair_order (λ r. (r.first, r.second)) None (key_order pair_number pairs)
 
 -- the glyphs that come first, each once
 abbrev pub firsts_of : List PairRow → List ℕ
-firsts_of rows = rising_only nat_cmp (λ g. g) None (map (λ r. r.first) rows)
+firsts_of rows = first_rows nat_cmp (λ g. g) None (map (λ r. r.first) rows)

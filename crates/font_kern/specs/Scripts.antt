@@ -15,7 +15,7 @@ use Rattle.layout_tables.specs.Layout.{LangSysTable, LangSysEntry, ScriptTable, 
 use Rattle.layout_tables.specs.Choice.{default_scripts, first_script, language_feature}
 use Rattle.font_kern.specs.declared.scripts.BackwardScript.{BackwardScript}
 use Rattle.font_kern.specs.declared.scripts.ScriptRow.{ScriptRow}
-use Rattle.font_kern.specs.Order.{rising_only}
+use Rattle.font_common.specs.Rows.{first_rows}
 use Rattle.font_kern.specs.Lookups.{kern_tag}
 
 -- ---- scripts that are written from right to left
@@ -135,7 +135,7 @@ offered_rows features scripts characters =
 -- the scripts that may lack the feature, by rising tags, each once
 abbrev pub script_rows : List FeatureTable → List ScriptTable → List CharacterRow → List ScriptRow
 script_rows features scripts characters =
-    rising_only nat_cmp (λ r. r.tag.0) None (key_order (λ r. r.tag.0) (offered_rows features scripts characters))
+    first_rows nat_cmp (λ r. r.tag.0) None (key_order (λ r. r.tag.0) (offered_rows features scripts characters))
 
 -- the script of a tag, else the usual one
 abbrev pub source_script : List ScriptTable → Tag → ScriptTable
@@ -164,7 +164,7 @@ kerned_entry features index r = record { tag = r.tag; lang_sys = kerned_system f
 
 -- language systems by rising tags
 abbrev pub kerned_entries : List FeatureTable → ℕ → List LangSysEntry → List LangSysEntry
-kerned_entries features index rs = rising_only nat_cmp (λ r. r.tag.0) None (map (kerned_entry features index) rs)
+kerned_entries features index rs = first_rows nat_cmp (λ r. r.tag.0) None (map (kerned_entry features index) rs)
 
 -- a script of a tag, with the systems of one, and the feature of an index in those that lack it
 abbrev pub kerned_script : List FeatureTable → ℕ → Tag → ScriptTable → ScriptTable

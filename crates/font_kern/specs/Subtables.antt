@@ -2,7 +2,7 @@
 use Rattle.std.specs.Prelude.{ℕ, zero, suc, ◌+◌, ◌==◌, ◌&&◌, ◌||◌, Bool, true, false, if◌then◌else◌, List, [], ◌∷◌, Result, Ok, Err, bit_and}
 use Rattle.font_bytes.specs.declared.fault.TableFault.{TableFault}
 use Rattle.font_bytes.specs.Results.{and_then}
-use Rattle.font_bytes.specs.Room.{taken}
+use Rattle.font_bytes.specs.Room.{room_after}
 use Rattle.font_bytes.specs.Words.{need, byte, word, long}
 use Rattle.font_common.specs.Offsets.{after}
 use Rattle.font_kern.specs.declared.subtables.Directory.{Directory}
@@ -56,7 +56,7 @@ subtable_taken is_apple table at =
 -- the subtables that are taken of n from an offset on; each takes 64 rows of room
 unfoldable pub subtables_from : Bool → List ℕ → ℕ → ℕ → ℕ → Result (List Subtable × ℕ) TableFault
 subtables_from is_apple table room at zero = Ok ([], room)
-subtables_from is_apple table room at (suc count) = and_then (taken room 64) (λ left. and_then (need table at (header_size is_apple))
+subtables_from is_apple table room at (suc count) = and_then (room_after room 64) (λ left. and_then (need table at (header_size is_apple))
     (λ _. after (subtable_taken is_apple table at) (subtables_from is_apple table left (at + length_at is_apple table at) count)))
 
 -- the subtables that are taken, in the table's order, with the room that is left

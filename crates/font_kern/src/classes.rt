@@ -12,7 +12,7 @@ use crate::pairs::kern_values;
 use buffer_rows::SortedRows;
 use font_bytes::fault::TableFault;
 use font_bytes::room::Room;
-use font_bytes::words::{fits, need, signed, word};
+use font_bytes::words::{fits, need, signed_word, word};
 use layout_common::array::Array;
 use layout_common::class_definition::ClassDefinition;
 use layout_common::coverage::Coverage;
@@ -210,7 +210,7 @@ fn values_at(is_backward: bool, table: &[u8], at: usize) -> PairValues
     ensures { result ≡ kern_values is_backward (distance_at table.now at) }
 {
     if fits(table, at, 2) {
-        kern_values(is_backward, signed(table, at))
+        kern_values(is_backward, signed_word(table, at))
     } else {
         kern_values(is_backward, 0)
     }

@@ -2,7 +2,7 @@
 ghost use Rattle.std.specs.Prelude.{◌≡◌, ◌≢◌, ◌≤◌, ◌<◌, ◌+◌, ◌*◌, ◌++◌, [], true, false, IfOk, IfErr, OnOk, Ok, Err, length};
 ghost use Rattle.std.specs.Option.{option_copied};
 ghost use Rattle.buffer_rows.specs.Keys.{numbers_rise};
-ghost use Rattle.font_kern.specs.Kern.{with_feature, with_direction, has_indices, with_lists, kerned_lists, with_rows, with_subtables, empty_table, kern_alone, kern_beside, with_table, kerned_at};
+ghost use Rattle.font_kern.specs.Kern.{with_feature, with_direction, has_indices, with_lists, kerned_lists, with_rows, with_subtables, empty_table, kern_alone, kern_beside, with_table, gpos_with_kern};
 
 use crate::features::copied_features;
 use crate::lookups::{append_lookups, kern_feature};
@@ -296,9 +296,9 @@ pub fn with_kerning(
     gpos: Option<PositioningTable>,
     room: &mut Room,
 ) -> Result<Option<PositioningTable>, TableFault>
-    ensures ok { IfOk result (λ t. kerned_at room.old.left table.now characters.now gpos ≡ Ok (t, room.new.left)) }
+    ensures ok { IfOk result (λ t. gpos_with_kern room.old.left table.now characters.now gpos ≡ Ok (t, room.new.left)) }
     ensures refused { IfErr result (λ e. e ≢ TableFault.OutOfMemory
-        → kerned_at room.old.left table.now characters.now gpos ≡ Err e) }
+        → gpos_with_kern room.old.left table.now characters.now gpos ≡ Err e) }
 {
     match gpos {
         None => kern_alone(alloc, table, characters, room),

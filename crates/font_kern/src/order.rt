@@ -1,7 +1,7 @@
 //! Records in the strict order of their keys, made of records in any order.
 ghost use Rattle.std.specs.Prelude.{◌≡◌, None, true, IfOk};
 ghost use Rattle.buffer_rows.specs.Keys.{is_rising};
-ghost use Rattle.font_kern.specs.Order.{rising_only};
+ghost use Rattle.font_common.specs.Rows.{first_rows};
 
 use buffer_rows::{Keyed, is_above};
 use std::alloc::{AllocError, Global};
@@ -10,7 +10,7 @@ use std::alloc::{AllocError, Global};
 /// one of each key.
 #[tactic(auto, using(crate::proofs::Kept::kept_one, crate::proofs::Kept::left_out, crate::proofs::Kept::kept_rise))]
 pub fn rising_only<R: Keyed + Drop>(alloc: Global, rows: Vec<R>) -> Result<Vec<R>, AllocError>
-    ensures only { IfOk result (λ v. v.items ≡ rising_only R.Key.cmp R.key_of None rows.items) }
+    ensures only { IfOk result (λ v. v.items ≡ first_rows R.Key.cmp R.key_of None rows.items) }
     ensures rising { IfOk result (λ v. is_rising R.Key.cmp R.key_of None v.items ≡ true) }
 {
     let mut kept = Vec::with_capacity(alloc, rows.len())?;

@@ -8,7 +8,7 @@ use crate::order::rising_only;
 use buffer_rows::{SortedRows, is_above};
 use font_bytes::fault::TableFault;
 use font_bytes::room::Room;
-use font_bytes::words::{need, signed, word};
+use font_bytes::words::{need, signed_word, word};
 use layout_tables::pair::{PairRow, PairValues};
 use layout_tables::value::ValueRecord;
 use std::alloc::{AllocError, Global};
@@ -77,7 +77,7 @@ fn pair_row(is_backward: bool, table: &[u8], at: usize) -> PairRow
 {
     let left = word(table, at);
     let right = word(table, at + 2);
-    let values = kern_values(is_backward, signed(table, at + 4));
+    let values = kern_values(is_backward, signed_word(table, at + 4));
     if is_backward {
         PairRow {
             first: right,

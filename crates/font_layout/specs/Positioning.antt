@@ -11,11 +11,11 @@ use Rattle.layout_face.specs.declared.positioning.PositioningLookup.{Positioning
 use Rattle.layout_face.specs.declared.positioning.PositioningSubtables.{PositioningSubtables}
 use Rattle.layout_face.specs.declared.positioning.PositioningSubtables.TheVariants.{Single, Pair, Cursive, MarkToBase, MarkToLigature, MarkToMark, Context, ChainContext}
 use Rattle.font_lists.specs.declared.lookups.LookupHead.{LookupHead}
-use Rattle.font_lists.specs.declared.lookups.SubtablePlace.{SubtablePlace}
+use Rattle.font_lists.specs.declared.lookups.SubtableOffset.{SubtableOffset}
 use Rattle.font_lists.specs.Lookups.{lookup_head_at, subtables_of, type_of}
 
 -- the subtables of a lookup, in a table of n lookups, by its type; none of an unknown type
-abbrev pub positions_of : ℕ → ℕ → ℕ → List ℕ → List SubtablePlace → Result (PositioningSubtables × ℕ) TableFault
+abbrev pub positions_of : ℕ → ℕ → ℕ → List ℕ → List SubtableOffset → Result (PositioningSubtables × ℕ) TableFault
 positions_of lookup_count lookup_type room table ps =
     if lookup_type == 1 then subtables_of Single single_pos_at room table ps
     else (if lookup_type == 2 then subtables_of Pair pair_pos_at room table ps

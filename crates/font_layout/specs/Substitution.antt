@@ -11,11 +11,11 @@ use Rattle.layout_face.specs.declared.substitution.SubstLookup.{SubstLookup}
 use Rattle.layout_face.specs.declared.substitution.SubstitutionSubtables.{SubstitutionSubtables}
 use Rattle.layout_face.specs.declared.substitution.SubstitutionSubtables.TheVariants.{Single, Multiple, Alternate, Ligature, Context, ChainContext, ReverseChainSingle}
 use Rattle.font_lists.specs.declared.lookups.LookupHead.{LookupHead}
-use Rattle.font_lists.specs.declared.lookups.SubtablePlace.{SubtablePlace}
+use Rattle.font_lists.specs.declared.lookups.SubtableOffset.{SubtableOffset}
 use Rattle.font_lists.specs.Lookups.{lookup_head_at, subtables_of, type_of}
 
 -- the subtables of a lookup, in a table of n lookups, by its type; none of an unknown type
-abbrev pub substitutions_of : ℕ → ℕ → ℕ → List ℕ → List SubtablePlace → Result (SubstitutionSubtables × ℕ) TableFault
+abbrev pub substitutions_of : ℕ → ℕ → ℕ → List ℕ → List SubtableOffset → Result (SubstitutionSubtables × ℕ) TableFault
 substitutions_of lookup_count lookup_type room table ps =
     if lookup_type == 1 then subtables_of Single single_subst_at room table ps
     else (if lookup_type == 2 then subtables_of Multiple multiple_subst_at room table ps

@@ -12,7 +12,7 @@ use crate::contexts::ContextReader;
 use font_bytes::fault::TableFault;
 use font_bytes::room::Room;
 use font_common::offsets::TableReader;
-use font_lists::lookups::{SubtablePlace, read_lookup_head, type_of};
+use font_lists::lookups::{SubtableOffset, read_lookup_head, type_of};
 use font_lists::subtables::{SubtableReader, no_subtables, read_subtables};
 use font_positioning::{
     read_cursive_pos, read_mark_base_pos, read_mark_lig_pos, read_pair_pos, read_single_pos,
@@ -132,55 +132,55 @@ fn read_positions(
     alloc: Global,
     lookup_count: usize,
     table: &[u8],
-    places: &[SubtablePlace],
+    offsets: &[SubtableOffset],
     room: &mut Room,
 ) -> Result<PositioningSubtables, TableFault>
-    ensures ok { IfOk result (λ s. positions_of lookup_count (type_of places.now) room.old.left table.now places.now
+    ensures ok { IfOk result (λ s. positions_of lookup_count (type_of offsets.now) room.old.left table.now offsets.now
         ≡ Ok (s, room.new.left)) }
     ensures refused { IfErr result (λ e. e ≢ TableFault.OutOfMemory
-        → positions_of lookup_count (type_of places.now) room.old.left table.now places.now ≡ Err e) }
+        → positions_of lookup_count (type_of offsets.now) room.old.left table.now offsets.now ≡ Err e) }
 {
-    match type_of(places) {
+    match type_of(offsets) {
         1 => Ok(PositioningSubtables::Single(read_subtables(
             &SingleReader,
             alloc,
             table,
-            places,
+            offsets,
             room,
         )?)),
         2 => Ok(PositioningSubtables::Pair(read_subtables(
             &PairReader,
             alloc,
             table,
-            places,
+            offsets,
             room,
         )?)),
         3 => Ok(PositioningSubtables::Cursive(read_subtables(
             &CursiveReader,
             alloc,
             table,
-            places,
+            offsets,
             room,
         )?)),
         4 => Ok(PositioningSubtables::MarkToBase(read_subtables(
             &MarkBaseReader,
             alloc,
             table,
-            places,
+            offsets,
             room,
         )?)),
         5 => Ok(PositioningSubtables::MarkToLigature(read_subtables(
             &MarkLigatureReader,
             alloc,
             table,
-            places,
+            offsets,
             room,
         )?)),
         6 => Ok(PositioningSubtables::MarkToMark(read_subtables(
             &MarkBaseReader,
             alloc,
             table,
-            places,
+            offsets,
             room,
         )?)),
         7 => {
@@ -188,7 +188,7 @@ fn read_positions(
                 chained: false,
                 lookup_count,
             };
-            Ok(PositioningSubtables::Context(read_subtables(&reader, alloc, table, places, room)?))
+            Ok(PositioningSubtables::Context(read_subtables(&reader, alloc, table, offsets, room)?))
         }
         8 => {
             let reader = ContextReader {
@@ -196,7 +196,7 @@ fn read_positions(
                 lookup_count,
             };
             Ok(PositioningSubtables::ChainContext(read_subtables(
-                &reader, alloc, table, places, room,
+                &reader, alloc, table, offsets, room,
             )?))
         }
         _ => Ok(PositioningSubtables::Single(no_subtables(alloc)?)),

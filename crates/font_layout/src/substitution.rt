@@ -12,7 +12,7 @@ use crate::contexts::ContextReader;
 use font_bytes::fault::TableFault;
 use font_bytes::room::Room;
 use font_common::offsets::TableReader;
-use font_lists::lookups::{SubtablePlace, read_lookup_head, type_of};
+use font_lists::lookups::{SubtableOffset, read_lookup_head, type_of};
 use font_lists::subtables::{SubtableReader, no_subtables, read_subtables};
 use font_substitution::{
     read_alternate_subst, read_ligature_subst, read_multiple_subst, read_reverse_subst,
@@ -133,41 +133,41 @@ fn read_substitutions(
     alloc: Global,
     lookup_count: usize,
     table: &[u8],
-    places: &[SubtablePlace],
+    offsets: &[SubtableOffset],
     room: &mut Room,
 ) -> Result<SubstitutionSubtables, TableFault>
-    ensures ok { IfOk result (λ s. substitutions_of lookup_count (type_of places.now) room.old.left table.now places.now
+    ensures ok { IfOk result (λ s. substitutions_of lookup_count (type_of offsets.now) room.old.left table.now offsets.now
         ≡ Ok (s, room.new.left)) }
     ensures refused { IfErr result (λ e. e ≢ TableFault.OutOfMemory
-        → substitutions_of lookup_count (type_of places.now) room.old.left table.now places.now ≡ Err e) }
+        → substitutions_of lookup_count (type_of offsets.now) room.old.left table.now offsets.now ≡ Err e) }
 {
-    match type_of(places) {
+    match type_of(offsets) {
         1 => Ok(SubstitutionSubtables::Single(read_subtables(
             &SingleReader,
             alloc,
             table,
-            places,
+            offsets,
             room,
         )?)),
         2 => Ok(SubstitutionSubtables::Multiple(read_subtables(
             &MultipleReader,
             alloc,
             table,
-            places,
+            offsets,
             room,
         )?)),
         3 => Ok(SubstitutionSubtables::Alternate(read_subtables(
             &AlternateReader,
             alloc,
             table,
-            places,
+            offsets,
             room,
         )?)),
         4 => Ok(SubstitutionSubtables::Ligature(read_subtables(
             &LigatureReader,
             alloc,
             table,
-            places,
+            offsets,
             room,
         )?)),
         5 => {
@@ -175,7 +175,9 @@ fn read_substitutions(
                 chained: false,
                 lookup_count,
             };
-            Ok(SubstitutionSubtables::Context(read_subtables(&reader, alloc, table, places, room)?))
+            Ok(SubstitutionSubtables::Context(read_subtables(
+                &reader, alloc, table, offsets, room,
+            )?))
         }
         6 => {
             let reader = ContextReader {
@@ -183,14 +185,14 @@ fn read_substitutions(
                 lookup_count,
             };
             Ok(SubstitutionSubtables::ChainContext(read_subtables(
-                &reader, alloc, table, places, room,
+                &reader, alloc, table, offsets, room,
             )?))
         }
         8 => Ok(SubstitutionSubtables::ReverseChainSingle(read_subtables(
             &ReverseReader,
             alloc,
             table,
-            places,
+            offsets,
             room,
         )?)),
         _ => Ok(SubstitutionSubtables::Single(no_subtables(alloc)?)),

@@ -3,7 +3,7 @@ use Rattle.std.specs.Prelude.{ℕ, ◌+◌, ◌*◌, ◌==◌, nat_le, if◌then
 use Rattle.font_bytes.specs.declared.fault.TableFault.{TableFault}
 use Rattle.font_bytes.specs.declared.fault.TableFault.TheVariants.{Kind}
 use Rattle.font_bytes.specs.Results.{and_then}
-use Rattle.font_bytes.specs.Room.{taken}
+use Rattle.font_bytes.specs.Room.{room_after}
 use Rattle.font_bytes.specs.Words.{need, word, long}
 use Rattle.font_bytes.specs.Records.{records}
 use Rattle.font_common.specs.ClassDefinition.{class_definition_at, class_rows_at}
@@ -35,7 +35,7 @@ coverages_in room table base offsets = tables_in (λ r o. value_at_offset [] cov
 
 -- format 1: markGlyphSetCount at 2, coverageOffsets at 4; an offset takes a row of room
 abbrev pub listed_sets : ℕ → List ℕ → ℕ → Result (List (List ℕ) × ℕ) TableFault
-listed_sets room table at = and_then (need table at 4) (λ _. and_then (need table (at + 4) (4 * word table (at + 2))) (λ _. and_then (taken room (word table (at + 2)))
+listed_sets room table at = and_then (need table at 4) (λ _. and_then (need table (at + 4) (4 * word table (at + 2))) (λ _. and_then (room_after room (word table (at + 2)))
     (λ left. coverages_in left table at (records (long table) 4 (at + 4) (word table (at + 2))))))
 
 -- the mark glyph sets at an offset, none of an unknown format

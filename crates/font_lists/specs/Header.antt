@@ -37,6 +37,6 @@ layout_header table = and_then (need table 0 10)
 
 -- scripts, and features at the default instance
 abbrev pub lists_at : ℕ → List ℕ → LayoutHeader → Result (LayoutLists × ℕ) TableFault
-lists_at room table h = and_then (variations_of room table h.variations) (λ places. and_then (features_of h.lookup_count places.0 places.1 table h.features)
+lists_at room table h = and_then (variations_of room table h.variations) (λ alternates. and_then (features_of h.lookup_count alternates.0 alternates.1 table h.features)
     (λ features. and_then (scripts_of h.feature_count features.1 table h.scripts)
     (λ scripts. Ok (record { scripts = scripts.0; features = features.0 }, scripts.1))))

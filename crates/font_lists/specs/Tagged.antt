@@ -11,12 +11,12 @@ use Rattle.font_common.specs.Rows.{first_rows}
 use Rattle.font_lists.specs.declared.tagged.TagRecord.{TagRecord}
 
 -- where the table at an offset from a base stands, 0 for a null offset
-abbrev pub place_of : ℕ → ℕ → ℕ
-place_of base offset = if offset == 0 then 0 else base + offset
+abbrev pub table_offset : ℕ → ℕ → ℕ
+table_offset base offset = if offset == 0 then 0 else base + offset
 
 -- a record: a tag at 0, at 4 an offset from a base
 abbrev pub tag_record : List ℕ → ℕ → ℕ → TagRecord
-tag_record table base at = record { tag = record { 0 = long table at }; at = place_of base (word table (at + 4)) }
+tag_record table base at = record { tag = record { 0 = long table at }; at = table_offset base (word table (at + 4)) }
 
 -- the records of an array
 abbrev pub tag_records : List ℕ → ℕ → ℕ → ℕ → List TagRecord

@@ -1,14 +1,14 @@
 //! Features (OpenType, chapter 2, feature list and feature tables).
 ghost use Rattle.std.specs.Prelude.{◌≡◌, ◌≢◌, ◌≤◌, ◌+◌, ◌*◌, IfOk, IfErr, Ok, Err, length};
 ghost use Rattle.font_bytes.specs.declared.fault.TableFault.{TableFault};
-ghost use Rattle.font_lists.specs.Features.{feature_at, feature_list_at, feature_of, features_of, substituted, substituted_by};
+ghost use Rattle.font_lists.specs.Features.{feature_at, feature_list_at, feature_of, features_of, default_records, default_record};
 ghost use Rattle.font_lists.specs.Tagged.{tag_record, tag_records};
 ghost use Rattle.buffer_rows.specs.Keys.{row_of};
 ghost use Rattle.std.specs.Option.{option_copied};
 
 use crate::scripts::read_known_indices;
 use crate::tagged::{TagRecord, TaggedReader, read_tagged_tables, tag_record};
-use crate::variations::FeaturePlace;
+use crate::variations::AlternateFeature;
 use buffer_rows::SortedRows;
 use font_bytes::fault::TableFault;
 use font_bytes::room::Room;
@@ -65,23 +65,23 @@ impl TaggedReader for FeatureReader {
     }
 }
 
-/// A record, or its tag with the place of the feature that stands in its place.
-fn substituted_by(place: Option<&FeaturePlace>, tagged: TagRecord) -> TagRecord
-    ensures { result ≡ substituted_by (option_copied place.entry) tagged }
+/// A feature record at the default instance: the tag with the offset of the alternate feature, where there is one.
+fn default_record(alternate: Option<&AlternateFeature>, tagged: TagRecord) -> TagRecord
+    ensures { result ≡ default_record (option_copied alternate.entry) tagged }
 {
-    match place {
-        Some(place) => TagRecord {
+    match alternate {
+        Some(alternate) => TagRecord {
             tag: tagged.tag,
-            at: place.at,
+            at: alternate.at,
         },
         None => tagged,
     }
 }
 
-/// The feature record at an offset, with the place of the feature that stands in the place of the one with its index.
+/// The feature record at an offset, with that of the alternate feature for its index.
 #[tactic(auto, using(buffer_rows::proofs::Searched::row_of_number))]
 fn feature_record(
-    places: &SortedRows<FeaturePlace>,
+    alternates: &SortedRows<AlternateFeature>,
     index: usize,
     table: &[u8],
     base: usize,
@@ -89,16 +89,16 @@ fn feature_record(
 ) -> TagRecord
     requires base_within { base ≤ length table.now }
     requires within { at + 6 ≤ length table.now }
-    ensures { result ≡ substituted_by (row_of (λ p. p.feature_index) index places.now) (tag_record table.now base at) }
+    ensures { result ≡ default_record (row_of (λ p. p.feature_index) index alternates.now) (tag_record table.now base at) }
 {
-    substituted_by(places.get(index), tag_record(table, base, at))
+    default_record(alternates.get(index), tag_record(table, base, at))
 }
 
-/// Reads an array of n feature records, with the places of the features that stand in the place of others.
+/// Reads an array of n feature records at the default instance, where alternate features stand in the place of others.
 #[tactic(auto, using(font_bytes::proofs::Recorded::records_more, font_bytes::proofs::Recorded::records_end))]
 fn read_feature_records(
     alloc: Global,
-    places: &SortedRows<FeaturePlace>,
+    alternates: &SortedRows<AlternateFeature>,
     table: &[u8],
     base: usize,
     at: usize,
@@ -106,12 +106,12 @@ fn read_feature_records(
 ) -> Result<Vec<TagRecord>, TableFault>
     requires base_within { base ≤ length table.now }
     requires within { at + 6 * count ≤ length table.now }
-    ensures ok { IfOk result (λ v. v.items ≡ substituted places.now 0 (tag_records table.now base at count)) }
+    ensures ok { IfOk result (λ v. v.items ≡ default_records alternates.now 0 (tag_records table.now base at count)) }
     ensures refused { IfErr result (λ e. e ≡ TableFault.OutOfMemory) }
 {
     let mut tagged = Vec::with_capacity(alloc, count)?;
     for index in 0..count {
-        let one = feature_record(places, index, table, base, at + 6 * index);
+        let one = feature_record(alternates, index, table, base, at + 6 * index);
         tagged.push(one)?;
     }
     Ok(tagged)
@@ -121,42 +121,42 @@ fn read_feature_records(
 fn read_feature_list(
     alloc: Global,
     lookup_count: usize,
-    places: &SortedRows<FeaturePlace>,
+    alternates: &SortedRows<AlternateFeature>,
     table: &[u8],
     at: usize,
     room: &mut Room,
 ) -> Result<Vec<FeatureRecord>, TableFault>
-    ensures ok { IfOk result (λ v. feature_list_at lookup_count places.now room.old.left table.now at
+    ensures ok { IfOk result (λ v. feature_list_at lookup_count alternates.now room.old.left table.now at
         ≡ Ok (v.items, room.new.left)) }
     ensures refused { IfErr result (λ e. e ≢ TableFault.OutOfMemory
-        → feature_list_at lookup_count places.now room.old.left table.now at ≡ Err e) }
+        → feature_list_at lookup_count alternates.now room.old.left table.now at ≡ Err e) }
 {
     need(table, at, 2)?;
     let count = usize::from(word(table, at));
     need(table, at + 2, 6 * count)?;
     room.take(count)?;
-    let tagged = read_feature_records(alloc, places, table, at, at + 2, count)?;
+    let tagged = read_feature_records(alloc, alternates, table, at, at + 2, count)?;
     let reader = FeatureReader { lookup_count };
     read_tagged_tables(&reader, alloc, table, &tagged, room)
 }
 
-/// Reads the features of a list, none where its offset is null, in a table of n lookups; at the places stand features
-/// in the place of others.
+/// Reads the features of a list, none where its offset is null, in a table of n lookups; alternates stand in the place of
+/// the features with their indices.
 pub fn read_features(
     alloc: Global,
     lookup_count: usize,
-    places: &SortedRows<FeaturePlace>,
+    alternates: &SortedRows<AlternateFeature>,
     table: &[u8],
     at: usize,
     room: &mut Room,
 ) -> Result<Vec<FeatureRecord>, TableFault>
-    ensures ok { IfOk result (λ v. features_of lookup_count places.now room.old.left table.now at
+    ensures ok { IfOk result (λ v. features_of lookup_count alternates.now room.old.left table.now at
         ≡ Ok (v.items, room.new.left)) }
     ensures refused { IfErr result (λ e. e ≢ TableFault.OutOfMemory
-        → features_of lookup_count places.now room.old.left table.now at ≡ Err e) }
+        → features_of lookup_count alternates.now room.old.left table.now at ≡ Err e) }
 {
     if at == 0 {
         return Ok(Vec::new(alloc));
     }
-    read_feature_list(alloc, lookup_count, places, table, at, room)
+    read_feature_list(alloc, lookup_count, alternates, table, at, room)
 }

@@ -22,11 +22,11 @@ pub fn read_lists(
     ensures ok { IfOk result (λ t. lists_at room.old.left table.now header ≡ Ok (t, room.new.left)) }
     ensures refused { IfErr result (λ e. e ≢ TableFault.OutOfMemory → lists_at room.old.left table.now header ≡ Err e) }
 {
-    let places = read_variations(alloc, table, header.variations, room)?;
+    let alternates = read_variations(alloc, table, header.variations, room)?;
     let features = read_features(
         alloc,
         header.lookup_count,
-        &places,
+        &alternates,
         table,
         header.features,
         room,

@@ -1,7 +1,7 @@
 //! Lookups and where their subtables stand (OpenType, chapter 2, lookup tables; extensions of GSUB and GPOS).
 ghost use Rattle.std.specs.Prelude.{◌≡◌, ◌≢◌, ◌≤◌, ◌+◌, ◌*◌, IfOk, IfErr, Ok, Err, length};
 ghost use Rattle.font_bytes.specs.declared.fault.TableFault.{TableFault};
-ghost use Rattle.font_lists.specs.Lookups.{extended_place, filtering_set, lookup_head_at, placed_subtable, set_width, subtable_place, type_of};
+ghost use Rattle.font_lists.specs.Lookups.{extension_offset, filtering_set, lookup_head_at, subtable_in_room, set_width, subtable_offset, type_of};
 
 use font_bytes::fault::TableFault;
 use font_bytes::room::Room;
@@ -16,7 +16,7 @@ const SUBTABLE_ROWS: usize = 63;
 
 /// A subtable: its lookup type, that of an extension being resolved, and where it stands.
 #[derive(Clone, Copy, Drop)]
-pub struct SubtablePlace {
+pub struct SubtableOffset {
     pub lookup_type: u16,
     pub at: usize,
 }
@@ -27,12 +27,12 @@ pub struct SubtablePlace {
 pub struct LookupHead {
     pub flags: u16,
     pub set: Option<u16>,
-    pub subtables: Array<SubtablePlace>,
+    pub subtables: Array<SubtableOffset>,
 }
 
 /// The subtable that an extension subtable names, with its type.
-fn extended_place(table: &[u8], at: usize) -> Result<Option<SubtablePlace>, TableFault>
-    ensures { result ≡ extended_place table.now at }
+fn extension_offset(table: &[u8], at: usize) -> Result<Option<SubtableOffset>, TableFault>
+    ensures { result ≡ extension_offset table.now at }
 {
     need(table, at, 8)?;
     if word(table, at) != 1 {
@@ -42,7 +42,7 @@ fn extended_place(table: &[u8], at: usize) -> Result<Option<SubtablePlace>, Tabl
     if offset == 0 {
         return Ok(None);
     }
-    Ok(Some(SubtablePlace {
+    Ok(Some(SubtableOffset {
         lookup_type: word(table, at + 2),
         at: at + offset as usize,
     }))
@@ -50,42 +50,42 @@ fn extended_place(table: &[u8], at: usize) -> Result<Option<SubtablePlace>, Tabl
 
 /// The offsets of the subtables of a lookup of a type, which count from a base.
 #[derive(Clone, Copy)]
-pub struct PlaceReader {
+pub struct SubtableOffsetReader {
     pub extension: u16,
     pub lookup_type: u16,
     pub base: usize,
 }
 
-impl PlaceReader {
+impl SubtableOffsetReader {
     /// The subtable whose offset stands at an offset.
-    fn place(&self, table: &[u8], at: usize) -> Result<Option<SubtablePlace>, TableFault>
+    fn subtable_offset(&self, table: &[u8], at: usize) -> Result<Option<SubtableOffset>, TableFault>
         requires within { at + 2 ≤ length table.now }
         requires base { self.now.base ≤ length table.now }
-        ensures { result ≡ subtable_place self.now.extension self.now.lookup_type self.now.base table.now at }
+        ensures { result ≡ subtable_offset self.now.extension self.now.lookup_type self.now.base table.now at }
     {
         let offset = word(table, at);
         if offset == 0 {
             return Ok(None);
         }
-        let place = self.base + usize::from(offset);
+        let start = self.base + usize::from(offset);
         if self.lookup_type == self.extension {
-            return extended_place(table, place);
+            return extension_offset(table, start);
         }
-        Ok(Some(SubtablePlace {
+        Ok(Some(SubtableOffset {
             lookup_type: self.lookup_type,
-            at: place,
+            at: start,
         }))
     }
 }
 
-impl RecordReader for PlaceReader {
-    type Item = SubtablePlace;
+impl RecordReader for SubtableOffsetReader {
+    type Item = SubtableOffset;
 
     ghost width_of = { λ _. 2 };
 
     ghost base_of = { λ r. r.base };
 
-    ghost item_at = { λ r. placed_subtable r.extension r.lookup_type r.base };
+    ghost item_at = { λ r. subtable_in_room r.extension r.lookup_type r.base };
 
     fn width(&self) -> usize {
         2
@@ -97,16 +97,16 @@ impl RecordReader for PlaceReader {
         table: &[u8],
         at: usize,
         room: &mut Room,
-    ) -> Result<Option<SubtablePlace>, TableFault> {
-        self.place(table, at)
+    ) -> Result<Option<SubtableOffset>, TableFault> {
+        self.subtable_offset(table, at)
     }
 }
 
 /// The type of the first of some subtables, 0 where there is none.
-pub fn type_of(places: &[SubtablePlace]) -> u16
-    ensures { result ≡ type_of places.now }
+pub fn type_of(offsets: &[SubtableOffset]) -> u16
+    ensures { result ≡ type_of offsets.now }
 {
-    match places {
+    match offsets {
         [first, ..] => first.lookup_type,
         [] => 0,
     }
@@ -157,7 +157,7 @@ pub fn read_lookup_head(
     let count = usize::from(word(table, at + 4));
     need(table, at + 6, 2 * count + set_width(flags))?;
     room.take(SUBTABLE_ROWS * count)?;
-    let reader = PlaceReader {
+    let reader = SubtableOffsetReader {
         extension,
         lookup_type: word(table, at),
         base: at,

@@ -5,7 +5,7 @@ ghost use Rattle.layout_tables.specs.Keyed.{is_rising};
 ghost use Rattle.font_lists.specs.Scripts.{default_lang_sys_at, known_index, known_indices, lang_sys_at, lang_sys_of, lang_systems_at, script_at, script_list_at, script_of, scripts_of};
 ghost use Rattle.font_common.specs.Words.{words_at};
 
-use crate::tagged::{TagRecord, TaggedReader, place_of, read_by_tag, read_tagged_tables};
+use crate::tagged::{TagRecord, TaggedReader, read_by_tag, read_tagged_tables, table_offset};
 use font_bytes::fault::TableFault;
 use font_bytes::room::Room;
 use font_bytes::words::{need, word};
@@ -103,22 +103,22 @@ impl TaggedReader for LangSysReader {
     }
 }
 
-/// Reads the default language system, none where it has no place.
+/// Reads the default language system, none where its offset is null.
 fn read_default(
     alloc: Global,
     feature_count: usize,
     table: &[u8],
-    place: usize,
+    at: usize,
     room: &mut Room,
 ) -> Result<Option<LangSys>, TableFault>
-    ensures ok { IfOk result (λ s. default_lang_sys_at feature_count room.old.left table.now place ≡ Ok (s, room.new.left)) }
+    ensures ok { IfOk result (λ s. default_lang_sys_at feature_count room.old.left table.now at ≡ Ok (s, room.new.left)) }
     ensures refused { IfErr result (λ e. e ≢ TableFault.OutOfMemory
-        → default_lang_sys_at feature_count room.old.left table.now place ≡ Err e) }
+        → default_lang_sys_at feature_count room.old.left table.now at ≡ Err e) }
 {
-    if place == 0 {
+    if at == 0 {
         return Ok(None);
     }
-    let system = read_lang_sys(alloc, feature_count, table, place, room)?;
+    let system = read_lang_sys(alloc, feature_count, table, at, room)?;
     Ok(Some(system))
 }
 
@@ -161,8 +161,8 @@ fn read_script(
 {
     let at = tagged.at;
     need(table, at, 4)?;
-    let place = place_of(table, at, u32::from(word(table, at)));
-    let system = read_default(alloc, feature_count, table, place, room)?;
+    let default = table_offset(table, at, u32::from(word(table, at)));
+    let system = read_default(alloc, feature_count, table, default, room)?;
     let count = usize::from(word(table, at + 2));
     match read_lang_systems(alloc, feature_count, table, at, count, room) {
         Ok(systems) => Ok(ScriptRecord::new(tagged.tag, system, systems)),

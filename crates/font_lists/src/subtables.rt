@@ -4,7 +4,7 @@ ghost use Rattle.std.specs.Option.{option_to_list};
 ghost use Rattle.font_bytes.specs.declared.fault.TableFault.{TableFault};
 ghost use Rattle.font_lists.specs.Lookups.{subtable_of_type, subtables_in, subtables_of_type};
 
-use crate::lookups::{SubtablePlace, type_of};
+use crate::lookups::{SubtableOffset, type_of};
 use font_bytes::fault::TableFault;
 use font_bytes::room::Room;
 use layout_common::array::Array;
@@ -31,24 +31,24 @@ pub trait SubtableReader {
             → subtable_at self.now room.old.left table.now at ≡ Err e) };
 }
 
-/// Reads the subtable at a place, if it is of a type.
+/// Reads the subtable at an offset, if it is of a type.
 fn read_of_type<R: SubtableReader>(
     reader: &R,
     alloc: Global,
     table: &[u8],
     lookup_type: u16,
-    place: SubtablePlace,
+    offset: SubtableOffset,
     room: &mut Room,
 ) -> Result<Option<R::Subtable>, TableFault>
-    ensures ok { IfOk result (λ s. subtable_of_type (R.subtable_at reader.now) table.now lookup_type room.old.left place
+    ensures ok { IfOk result (λ s. subtable_of_type (R.subtable_at reader.now) table.now lookup_type room.old.left offset
         ≡ Ok (s, room.new.left)) }
     ensures refused { IfErr result (λ e. e ≢ TableFault.OutOfMemory
-        → subtable_of_type (R.subtable_at reader.now) table.now lookup_type room.old.left place ≡ Err e) }
+        → subtable_of_type (R.subtable_at reader.now) table.now lookup_type room.old.left offset ≡ Err e) }
 {
-    if place.lookup_type != lookup_type {
+    if offset.lookup_type != lookup_type {
         return Ok(None);
     }
-    reader.read_subtable(alloc, table, place.at, room)
+    reader.read_subtable(alloc, table, offset.at, room)
 }
 
 /// Appends a subtable with the sets of the glyphs at which it can act, if there is one.
@@ -65,23 +65,23 @@ fn push_some<S: Covers + Drop>(
     Ok(())
 }
 
-/// Reads the subtables at places, in turn, that are of a type.
+/// Reads the subtables at offsets, in turn, that are of a type.
 fn read_listed<R: SubtableReader>(
     reader: &R,
     alloc: Global,
     table: &[u8],
     lookup_type: u16,
-    places: &[SubtablePlace],
+    offsets: &[SubtableOffset],
     room: &mut Room,
 ) -> Result<Vec<Digested<R::Subtable>>, TableFault>
-    ensures ok { IfOk result (λ v. subtables_of_type (R.subtable_at reader.now) room.old.left table.now lookup_type places.now
+    ensures ok { IfOk result (λ v. subtables_of_type (R.subtable_at reader.now) room.old.left table.now lookup_type offsets.now
         ≡ Ok (v.items, room.new.left)) }
     ensures refused { IfErr result (λ e. e ≢ TableFault.OutOfMemory
-        → subtables_of_type (R.subtable_at reader.now) room.old.left table.now lookup_type places.now ≡ Err e) }
+        → subtables_of_type (R.subtable_at reader.now) room.old.left table.now lookup_type offsets.now ≡ Err e) }
 {
     let mut subtables = Vec::new(alloc);
-    for place in places {
-        let subtable = read_of_type(reader, alloc, table, lookup_type, *place, room)?;
+    for offset in offsets {
+        let subtable = read_of_type(reader, alloc, table, lookup_type, *offset, room)?;
         push_some(&mut subtables, subtable)?;
     }
     Ok(subtables)
@@ -92,15 +92,15 @@ pub fn read_subtables<R: SubtableReader>(
     reader: &R,
     alloc: Global,
     table: &[u8],
-    places: &[SubtablePlace],
+    offsets: &[SubtableOffset],
     room: &mut Room,
 ) -> Result<Subtables<R::Subtable>, TableFault>
-    ensures ok { IfOk result (λ v. subtables_in (R.subtable_at reader.now) room.old.left table.now places.now
+    ensures ok { IfOk result (λ v. subtables_in (R.subtable_at reader.now) room.old.left table.now offsets.now
         ≡ Ok (v, room.new.left)) }
     ensures refused { IfErr result (λ e. e ≢ TableFault.OutOfMemory
-        → subtables_in (R.subtable_at reader.now) room.old.left table.now places.now ≡ Err e) }
+        → subtables_in (R.subtable_at reader.now) room.old.left table.now offsets.now ≡ Err e) }
 {
-    let subtables = read_listed(reader, alloc, table, type_of(places), places, room)?;
+    let subtables = read_listed(reader, alloc, table, type_of(offsets), offsets, room)?;
     let subtables = Subtables::new(alloc, Array::new(subtables))?;
     Ok(subtables)
 }

@@ -3,7 +3,7 @@ ghost use Rattle.std.specs.Prelude.{◌≡◌, ◌≢◌, ◌≤◌, ◌+◌, �
 ghost use Rattle.font_bytes.specs.declared.fault.TableFault.{TableFault};
 ghost use Rattle.buffer_rows.specs.KeyOrder.{key_order};
 ghost use Rattle.font_lists.specs.declared.tagged.TagRecord.{TagRecord};
-ghost use Rattle.font_lists.specs.Tagged.{by_tag, place_of, tag_record, tag_records, tagged_tables};
+ghost use Rattle.font_lists.specs.Tagged.{by_tag, table_offset, tag_record, tag_records, tagged_tables};
 
 use buffer_common::tag::Tag;
 use buffer_rows::{Keyed, SortedRows};
@@ -31,9 +31,9 @@ impl Keyed for TagRecord {
 }
 
 /// Where the table at an offset from a base stands, 0 for a null offset.
-pub fn place_of(table: &[u8], base: usize, offset: u32) -> usize
+pub fn table_offset(table: &[u8], base: usize, offset: u32) -> usize
     requires { base ≤ length table.now }
-    ensures { result ≡ place_of base offset }
+    ensures { result ≡ table_offset base offset }
 {
     if offset == 0 {
         0
@@ -50,7 +50,7 @@ pub fn tag_record(table: &[u8], base: usize, at: usize) -> TagRecord
 {
     TagRecord {
         tag: Tag(long(table, at)),
-        at: place_of(table, base, u32::from(word(table, at + 4))),
+        at: table_offset(table, base, u32::from(word(table, at + 4))),
     }
 }
 

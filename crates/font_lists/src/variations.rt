@@ -3,9 +3,9 @@ ghost use Rattle.std.specs.Prelude.{◌≡◌, ◌≢◌, ◌≤◌, ◌+◌, �
 ghost use Rattle.font_bytes.specs.declared.fault.TableFault.{TableFault};
 ghost use Rattle.font_bytes.specs.Words.{long};
 ghost use Rattle.font_bytes.specs.Records.{records};
-ghost use Rattle.font_lists.specs.Variations.{condition_fits, condition_set_fits, conditions_fit, feature_place, first_fitting, has_default, range_fits, set_fits, substitution_at, substitution_of, variation_records, variations_at, variations_of};
+ghost use Rattle.font_lists.specs.Variations.{condition_fits, condition_set_fits, conditions_fit, alternate_feature, first_fitting, has_default, range_fits, set_fits, substitution_at, substitution_of, variation_records, variations_at, variations_of};
 
-use crate::tagged::place_of;
+use crate::tagged::table_offset;
 use buffer_rows::{Keyed, SortedRows};
 use font_bytes::fault::TableFault;
 use font_bytes::room::Room;
@@ -13,14 +13,14 @@ use font_bytes::words::{long, need, word};
 use font_common::rows::first_rows;
 use std::alloc::Global;
 
-/// The index of a feature, and where the one stands that stands in its place; 0 for a null offset.
+/// The index of a feature, and the offset of the feature that stands in its place; 0 for a null offset.
 #[derive(Clone, Copy, Drop)]
-pub struct FeaturePlace {
+pub struct AlternateFeature {
     pub feature_index: usize,
     pub at: usize,
 }
 
-impl Keyed for FeaturePlace {
+impl Keyed for AlternateFeature {
     type Key = usize;
 
     ghost key_of = { λ p. p.feature_index };
@@ -46,15 +46,15 @@ fn range_fits(table: &[u8], at: usize) -> Result<bool, TableFault>
 }
 
 /// Whether a condition holds at the default instance.
-fn condition_fits(table: &[u8], place: usize) -> Result<bool, TableFault>
-    ensures { result ≡ condition_fits table.now place }
+fn condition_fits(table: &[u8], at: usize) -> Result<bool, TableFault>
+    ensures { result ≡ condition_fits table.now at }
 {
-    if place == 0 {
+    if at == 0 {
         return Ok(false);
     }
-    need(table, place, 2)?;
-    if word(table, place) == 1 {
-        range_fits(table, place)
+    need(table, at, 2)?;
+    if word(table, at) == 1 {
+        range_fits(table, at)
     } else {
         Ok(false)
     }
@@ -68,8 +68,8 @@ fn conditions_fit(table: &[u8], base: usize, at: usize, count: usize) -> Result<
     ensures { result ≡ conditions_fit table.now base (records (long table.now) 4 at count) }
 {
     for index in 0..count {
-        let place = place_of(table, base, long(table, at + 4 * index));
-        if !condition_fits(table, place)? {
+        let condition = table_offset(table, base, long(table, at + 4 * index));
+        if !condition_fits(table, condition)? {
             return Ok(false);
         }
     }
@@ -89,17 +89,17 @@ fn condition_set_fits(table: &[u8], at: usize, room: &mut Room) -> Result<bool, 
 }
 
 /// Whether a condition set holds, if there is one.
-fn set_fits(table: &[u8], place: usize, room: &mut Room) -> Result<bool, TableFault>
-    ensures ok { IfOk result (λ b. set_fits room.old.left table.now place ≡ Ok (b, room.new.left)) }
-    ensures refused { IfErr result (λ e. set_fits room.old.left table.now place ≡ Err e) }
+fn set_fits(table: &[u8], at: usize, room: &mut Room) -> Result<bool, TableFault>
+    ensures ok { IfOk result (λ b. set_fits room.old.left table.now at ≡ Ok (b, room.new.left)) }
+    ensures refused { IfErr result (λ e. set_fits room.old.left table.now at ≡ Err e) }
 {
-    if place == 0 {
+    if at == 0 {
         return Ok(true);
     }
-    condition_set_fits(table, place, room)
+    condition_set_fits(table, at, room)
 }
 
-/// The place of the substitution of the first of n records whose condition set holds, 0 where there is none.
+/// The offset of the substitution of the first of n records whose condition set holds, 0 where there is none.
 #[tactic(auto, using(font_bytes::proofs::Recorded::records_more, font_bytes::proofs::Recorded::records_end))]
 fn first_fitting(
     table: &[u8],
@@ -115,44 +115,44 @@ fn first_fitting(
 {
     for index in 0..count {
         let at = base + 8 + 8 * index;
-        if set_fits(table, place_of(table, base, long(table, at)), room)? {
-            return Ok(place_of(table, base, long(table, at + 4)));
+        if set_fits(table, table_offset(table, base, long(table, at)), room)? {
+            return Ok(table_offset(table, base, long(table, at + 4)));
         }
     }
     Ok(0)
 }
 
 /// The record at an offset, whose offset counts from a base.
-fn feature_place(table: &[u8], base: usize, at: usize) -> FeaturePlace
+fn alternate_feature(table: &[u8], base: usize, at: usize) -> AlternateFeature
     requires base_within { base ≤ length table.now }
     requires within { at + 6 ≤ length table.now }
-    ensures { result ≡ feature_place table.now base at }
+    ensures { result ≡ alternate_feature table.now base at }
 {
-    FeaturePlace {
+    AlternateFeature {
         feature_index: usize::from(word(table, at)),
-        at: place_of(table, base, long(table, at + 2)),
+        at: table_offset(table, base, long(table, at + 2)),
     }
 }
 
 /// Reads an array of n records.
 #[tactic(auto, using(font_bytes::proofs::Recorded::records_more, font_bytes::proofs::Recorded::records_end))]
-fn read_places(
+fn read_alternates(
     alloc: Global,
     table: &[u8],
     base: usize,
     at: usize,
     count: usize,
-) -> Result<Vec<FeaturePlace>, TableFault>
+) -> Result<Vec<AlternateFeature>, TableFault>
     requires base_within { base ≤ length table.now }
     requires within { at + 6 * count ≤ length table.now }
-    ensures ok { IfOk result (λ v. v.items ≡ records (feature_place table.now base) 6 at count) }
+    ensures ok { IfOk result (λ v. v.items ≡ records (alternate_feature table.now base) 6 at count) }
     ensures refused { IfErr result (λ e. e ≡ TableFault.OutOfMemory) }
 {
-    let mut places = Vec::with_capacity(alloc, count)?;
+    let mut alternates = Vec::with_capacity(alloc, count)?;
     for index in 0..count {
-        places.push(feature_place(table, base, at + 6 * index))?;
+        alternates.push(alternate_feature(table, base, at + 6 * index))?;
     }
-    Ok(places)
+    Ok(alternates)
 }
 
 /// Reads a feature table substitution.
@@ -161,7 +161,7 @@ fn read_substitution(
     table: &[u8],
     at: usize,
     room: &mut Room,
-) -> Result<SortedRows<FeaturePlace>, TableFault>
+) -> Result<SortedRows<AlternateFeature>, TableFault>
     ensures ok { IfOk result (λ v. substitution_at room.old.left table.now at ≡ Ok (v, room.new.left)) }
     ensures refused { IfErr result (λ e. e ≢ TableFault.OutOfMemory → substitution_at room.old.left table.now at ≡ Err e) }
 {
@@ -169,8 +169,8 @@ fn read_substitution(
     let count = usize::from(word(table, at + 4));
     need(table, at + 6, 6 * count)?;
     room.take(count)?;
-    let places = read_places(alloc, table, at, at + 6, count)?;
-    first_rows(alloc, places)
+    let alternates = read_alternates(alloc, table, at, at + 6, count)?;
+    first_rows(alloc, alternates)
 }
 
 /// Reads a feature variations table.
@@ -179,7 +179,7 @@ fn read_listed_variations(
     table: &[u8],
     at: usize,
     room: &mut Room,
-) -> Result<SortedRows<FeaturePlace>, TableFault>
+) -> Result<SortedRows<AlternateFeature>, TableFault>
     ensures ok { IfOk result (λ v. variations_at room.old.left table.now at ≡ Ok (v, room.new.left)) }
     ensures refused { IfErr result (λ e. e ≢ TableFault.OutOfMemory → variations_at room.old.left table.now at ≡ Err e) }
 {
@@ -190,11 +190,11 @@ fn read_listed_variations(
     let count = long(table, at + 4) as usize;
     need(table, at + 8, 8 * count)?;
     room.take(count)?;
-    let place = first_fitting(table, at, count, room)?;
-    if place == 0 {
+    let substitution = first_fitting(table, at, count, room)?;
+    if substitution == 0 {
         return Ok(SortedRows::new(Vec::new(alloc)));
     }
-    read_substitution(alloc, table, place, room)
+    read_substitution(alloc, table, substitution, room)
 }
 
 /// Reads the features in whose place others stand at the default instance, by the first record of feature variations that
@@ -204,7 +204,7 @@ pub fn read_variations(
     table: &[u8],
     at: usize,
     room: &mut Room,
-) -> Result<SortedRows<FeaturePlace>, TableFault>
+) -> Result<SortedRows<AlternateFeature>, TableFault>
     ensures ok { IfOk result (λ v. variations_of room.old.left table.now at ≡ Ok (v, room.new.left)) }
     ensures refused { IfErr result (λ e. e ≢ TableFault.OutOfMemory → variations_of room.old.left table.now at ≡ Err e) }
 {

@@ -3,7 +3,7 @@ use Rattle.std.specs.Prelude.{ℕ, ◌+◌, ◌-◌, ◌*◌, ◌/◌, ◌==◌,
 use Rattle.layout_common.specs.declared.glyph_row.GlyphRow.{GlyphRow}
 use Rattle.font_bytes.specs.declared.fault.TableFault.{TableFault}
 use Rattle.font_bytes.specs.Results.{and_then}
-use Rattle.font_bytes.specs.Words.{fits, need, word, signed}
+use Rattle.font_bytes.specs.Words.{fits, need, word, signed_word}
 use Rattle.font_metrics.specs.declared.line.LineMetrics.{LineMetrics}
 use Rattle.font_metrics.specs.Values.{value_rows}
 
@@ -20,8 +20,8 @@ advance_at table long g = word table (4 * min g (long - 1))
 
 -- the side bearing of a glyph: of its long metric, else of the array after these, as far as it is there
 abbrev pub bearing_at : List ℕ → ℕ → ℕ → Option ℤ
-bearing_at table long g = if nat_lt g long then Some (signed table (4 * g + 2))
-    else (if long == 0 || not (fits table (4 * long + 2 * (g - long)) 2) then None else Some (signed table (4 * long + 2 * (g - long))))
+bearing_at table long g = if nat_lt g long then Some (signed_word table (4 * g + 2))
+    else (if long == 0 || not (fits table (4 * long + 2 * (g - long)) 2) then None else Some (signed_word table (4 * long + 2 * (g - long))))
 
 -- the advances of n glyphs
 unfoldable pub advance_rows : List ℕ → ℕ → ℕ → List (GlyphRow ℕ)

@@ -1,7 +1,7 @@
 -- The boxes of outlines of TrueType (OpenType, chapter 5, loca and glyf).
 use Rattle.std.specs.Prelude.{ℕ, zero, suc, ◌+◌, ◌-◌, ◌*◌, ◌==◌, ◌||◌, nat_lt, ℤ, pos, ◌+ℤ◌, ◌-ℤ◌, int_le, Bool, true, false, if◌then◌else◌, List, [], ◌∷◌, length, Option, Some, None}
 use Rattle.std.specs.Option.{option_map}
-use Rattle.font_bytes.specs.Words.{word, word_at, long_at, signed}
+use Rattle.font_bytes.specs.Words.{word, word_at, long_at, signed_word}
 use Rattle.font_metrics.specs.declared.boxes.GlyphBox.{GlyphBox}
 use Rattle.font_metrics.specs.declared.boxes.HeaderBox.{HeaderBox}
 use Rattle.font_metrics.specs.Advances.{bearing_at}
@@ -35,7 +35,7 @@ sides x_min y_min x_max y_max = record { left = least x_min x_max; bottom = leas
 
 -- glyph header: numberOfContours at 0, xMin at 2, yMin at 4, xMax at 6, yMax at 8
 unfoldable pub header_box : List ℕ → ℕ → Option HeaderBox
-header_box glyf at = if word glyf at == 0 then None else Some (sides (signed glyf (at + 2)) (signed glyf (at + 4)) (signed glyf (at + 6)) (signed glyf (at + 8)))
+header_box glyf at = if word glyf at == 0 then None else Some (sides (signed_word glyf (at + 2)) (signed_word glyf (at + 4)) (signed_word glyf (at + 6)) (signed_word glyf (at + 8)))
 
 -- the box of the header at an offset, if there is one
 abbrev pub box_from : List ℕ → Option ℕ → Option HeaderBox

@@ -3,7 +3,7 @@ use Rattle.std.specs.Prelude.{ℕ, ◌/◌, ◌%◌, ◌==◌, ◌&&◌, not, na
 use Rattle.std.specs.Ordering.{int_eq}
 use Rattle.font_bytes.specs.declared.fault.TableFault.{TableFault}
 use Rattle.font_bytes.specs.Results.{and_then}
-use Rattle.font_bytes.specs.Words.{need, word, signed}
+use Rattle.font_bytes.specs.Words.{need, word, signed_word}
 use Rattle.font_metrics.specs.declared.line.LineMetrics.{LineMetrics}
 use Rattle.font_metrics.specs.declared.line.WindowsMetrics.{WindowsMetrics}
 
@@ -20,7 +20,7 @@ height_of n = if nat_le n 32767 then pos n else pos 32767
 unfoldable pub windows_at : List ℕ → WindowsMetrics
 windows_at table = record {
   prefers = word table 62 / 128 % 2 == 1;
-  typographic = record { ascender = signed table 68; descender = signed table 70 };
+  typographic = record { ascender = signed_word table 68; descender = signed_word table 70 };
   windows = record { ascender = height_of (word table 74); descender = neg_ℤ (height_of (word table 76)) };
 }
 
@@ -32,7 +32,7 @@ windows_metrics (Some table) = and_then (need table 0 78) (λ _. Ok (windows_at 
 -- hhea: ascender at 4, descender at 6; zeros without it
 abbrev pub header_metrics : Option (List ℕ) → Result LineMetrics TableFault
 header_metrics None = Ok no_line
-header_metrics (Some table) = and_then (need table 0 36) (λ _. Ok (record { ascender = signed table 4; descender = signed table 6 }))
+header_metrics (Some table) = and_then (need table 0 36) (λ _. Ok (record { ascender = signed_word table 4; descender = signed_word table 6 }))
 
 -- whether a number is 0
 abbrev pub is_zero : ℤ → Bool

@@ -8,7 +8,7 @@ use Rattle.buffer_rows.specs.Keys.{numbers_rise}
 use Rattle.font_bytes.specs.declared.fault.TableFault.{TableFault}
 use Rattle.font_bytes.specs.declared.fault.TableFault.TheVariants.{Order}
 use Rattle.font_bytes.specs.Results.{and_then}
-use Rattle.font_bytes.specs.Words.{need, word, signed}
+use Rattle.font_bytes.specs.Words.{need, word, signed_word}
 use Rattle.font_bytes.specs.Records.{records}
 use Rattle.font_metrics.specs.declared.boxes.GlyphBox.{GlyphBox}
 use Rattle.font_metrics.specs.declared.line.LineMetrics.{LineMetrics}
@@ -58,7 +58,7 @@ box_origins boxes vmtx long line count = value_rows (box_origin_at boxes vmtx lo
 
 -- vertOriginYMetrics: glyphIndex at 0, vertOriginY at 2
 abbrev pub origin_record : List ℕ → ℕ → GlyphRow ℤ
-origin_record table at = record { glyph = word table at; value = signed table (at + 2) }
+origin_record table at = record { glyph = word table at; value = signed_word table (at + 2) }
 
 -- rows whose glyphs rise
 abbrev pub rising_records : List (GlyphRow ℤ) → Result (List (GlyphRow ℤ)) TableFault
@@ -83,4 +83,4 @@ recorded_origins h count rows = value_rows (vorg_origin rows h) 0 count
 
 -- the origins of n glyphs by VORG: defaultVertOriginY at 4
 unfoldable pub vorg_origins : List ℕ → ℤ → ℕ → Result (List (GlyphRow ℤ)) TableFault
-vorg_origins table ascender count = and_then (origin_records table) (λ rows. Ok (recorded_origins (record { usual = signed table 4; ascender = ascender }) count rows))
+vorg_origins table ascender count = and_then (origin_records table) (λ rows. Ok (recorded_origins (record { usual = signed_word table 4; ascender = ascender }) count rows))

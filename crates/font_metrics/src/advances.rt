@@ -8,7 +8,7 @@ use crate::line::LineMetrics;
 use crate::values::push_value;
 use buffer_rows::SortedRows;
 use font_bytes::fault::TableFault;
-use font_bytes::words::{fits, need, signed, word};
+use font_bytes::words::{fits, need, signed_word, word};
 use layout_common::glyph_row::GlyphRow;
 use std::alloc::Global;
 
@@ -40,12 +40,12 @@ pub fn bearing_at(table: &[u8], long: usize, glyph: u16) -> Option<i16>
 {
     let glyph = usize::from(glyph);
     if glyph < long {
-        return Some(signed(table, 4 * glyph + 2));
+        return Some(signed_word(table, 4 * glyph + 2));
     }
     if long == 0 || !fits(table, 4 * long + 2 * (glyph - long), 2) {
         return None;
     }
-    Some(signed(table, 4 * long + 2 * (glyph - long)))
+    Some(signed_word(table, 4 * long + 2 * (glyph - long)))
 }
 
 /// The rows of advances: one for each glyph, none without a long metric.

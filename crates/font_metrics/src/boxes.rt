@@ -4,7 +4,7 @@ ghost use Rattle.font_metrics.specs.Boxes.{glyph_offset, outline_at, least, grea
 
 use crate::advances::bearing_at;
 use font_bytes::fault::TableFault;
-use font_bytes::words::{long_at, signed, word, word_at};
+use font_bytes::words::{long_at, signed_word, word, word_at};
 use std::alloc::Global;
 
 /// The box of a glyph's outline in font units; y grows upwards. One without an outline has zeros.
@@ -90,10 +90,10 @@ fn header_box(glyf: &[u8], at: usize) -> Option<HeaderBox>
     if word(glyf, at) == 0 {
         return None;
     }
-    let x_min = signed(glyf, at + 2);
-    let y_min = signed(glyf, at + 4);
-    let x_max = signed(glyf, at + 6);
-    let y_max = signed(glyf, at + 8);
+    let x_min = signed_word(glyf, at + 2);
+    let y_min = signed_word(glyf, at + 4);
+    let x_max = signed_word(glyf, at + 6);
+    let y_max = signed_word(glyf, at + 8);
     Some(sides(x_min, y_min, x_max, y_max))
 }
 

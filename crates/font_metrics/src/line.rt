@@ -4,7 +4,7 @@ ghost use Rattle.std.specs.Option.{option_copied};
 ghost use Rattle.font_metrics.specs.Line.{windows_metrics, windows_at, header_metrics, line_metric, line_of, height_of, line_metrics};
 
 use font_bytes::fault::TableFault;
-use font_bytes::words::{need, signed, word};
+use font_bytes::words::{need, signed_word, word};
 
 /// The ascender and the descender, which is mostly negative, in font units.
 #[derive(Clone, Copy, PartialEq, Eq, Debug, Default)]
@@ -42,8 +42,8 @@ fn windows_at(table: &[u8]) -> WindowsMetrics
     WindowsMetrics {
         prefers: word(table, 62) / 128 % 2 == 1,
         typographic: LineMetrics {
-            ascender: signed(table, 68),
-            descender: signed(table, 70),
+            ascender: signed_word(table, 68),
+            descender: signed_word(table, 70),
         },
         windows: LineMetrics {
             ascender: height(word(table, 74)),
@@ -87,8 +87,8 @@ fn header_metrics(table: Option<&[u8]>) -> Result<LineMetrics, TableFault>
         Some(table) => {
             need(table, 0, 36)?;
             Ok(LineMetrics {
-                ascender: signed(table, 4),
-                descender: signed(table, 6),
+                ascender: signed_word(table, 4),
+                descender: signed_word(table, 6),
             })
         }
     }

@@ -10,7 +10,7 @@ use crate::line::LineMetrics;
 use crate::values::push_value;
 use buffer_rows::{SortedRows, is_rising};
 use font_bytes::fault::TableFault;
-use font_bytes::words::{need, signed, word};
+use font_bytes::words::{need, signed_word, word};
 use layout_common::glyph_row::{GlyphRow, find_value};
 use std::alloc::Global;
 
@@ -125,7 +125,7 @@ fn origin_record(table: &[u8], at: usize) -> GlyphRow<i16>
 {
     GlyphRow {
         glyph: word(table, at),
-        value: signed(table, at + 2),
+        value: signed_word(table, at + 2),
     }
 }
 
@@ -208,6 +208,6 @@ pub fn vorg_origins(
         → vorg_origins table.now ascender count ≡ Err e) }
 {
     let records = origin_records(alloc, table)?;
-    let usual = signed(table, 4);
+    let usual = signed_word(table, 4);
     recorded_origins(alloc, &records, Heights { usual, ascender }, count)
 }

@@ -76,20 +76,16 @@ fn decoded_text(alloc: Global, bytes: &[u8]) -> Result<String, TableFault>
     Ok(text)
 }
 
-/// The text of bytes of ASCII, which are UTF-8 as they are.
-#[tactic(auto, using(crate::proofs::Latin::plain))]
+/// The text of bytes of ASCII, which are UTF-8 as they are: no test of it is made again, in fonts of thousands of names.
+#[tactic(auto, using(crate::proofs::Latin::plain, crate::proofs::Latin::ascii_is_utf8))]
 fn ascii_text(alloc: Global, bytes: &[u8]) -> Result<String, TableFault>
     requires { IsAscii bytes.now }
     ensures ok { IfOk result (λ s. string_bytes s ≡ latin_text bytes.now) }
     ensures refused { IfErr result (λ e. e ≡ TableFault.OutOfMemory) }
 {
-    match str::from_utf8(bytes) {
-        Ok(text) => {
-            let text = String::from_str(alloc, text)?;
-            Ok(text)
-        }
-        Err(_) => decoded_text(alloc, bytes),
-    }
+    let text = unsafe { str::from_utf8_unchecked(bytes) };
+    let text = String::from_str(alloc, text)?;
+    Ok(text)
 }
 
 /// A text of characters of ISO 8859-1, a byte each.

@@ -2,7 +2,7 @@
 use Rattle.std.specs.Prelude.{ℕ, ◌+◌, ◌*◌, ◌==◌, ◌||◌, Bool, if◌then◌else◌, List, Option, Some, None, Result, Ok}
 use Rattle.font_bytes.specs.declared.fault.TableFault.{TableFault}
 use Rattle.font_bytes.specs.Results.{and_then}
-use Rattle.font_bytes.specs.Words.{need, word, signed}
+use Rattle.font_bytes.specs.Words.{need, word, signed_word}
 use Rattle.font_records.specs.Turns.{array_at}
 use Rattle.layout_tables.specs.declared.value.Anchor.{Anchor}
 
@@ -13,7 +13,7 @@ is_anchor_format format = format == 1 || format == 2 || format == 3
 -- the anchor table at an offset: anchorFormat at 0, xCoordinate at 2, yCoordinate at 4; one of an unknown format is none
 abbrev pub anchor_table : List ℕ → ℕ → Result (Option Anchor) TableFault
 anchor_table table at = and_then (need table at 6) (λ _.
-    if is_anchor_format (word table at) then Ok (Some (record { x = signed table (at + 2); y = signed table (at + 4) })) else Ok None)
+    if is_anchor_format (word table at) then Ok (Some (record { x = signed_word table (at + 2); y = signed_word table (at + 4) })) else Ok None)
 
 -- the anchor whose offset from a base stands at an offset; a null offset is none
 abbrev pub anchor_at : ℕ → List ℕ → ℕ → Result (Option Anchor) TableFault

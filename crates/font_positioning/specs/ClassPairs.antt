@@ -4,10 +4,10 @@ use Rattle.font_bytes.specs.declared.fault.TableFault.{TableFault}
 use Rattle.font_bytes.specs.Results.{and_then}
 use Rattle.font_bytes.specs.Words.{need, word}
 use Rattle.font_bytes.specs.Records.{records}
-use Rattle.font_bytes.specs.Room.{taken}
+use Rattle.font_bytes.specs.Room.{room_after}
 use Rattle.font_common.specs.ClassDefinition.{class_rows_at}
 use Rattle.font_common.specs.Offsets.{value_at_offset}
-use Rattle.font_records.specs.Covered.{covered}
+use Rattle.font_common.specs.Coverage.{glyphs_in_room}
 use Rattle.layout_common.specs.Coverage.{in_order}
 use Rattle.layout_common.specs.Rows.{value_of}
 use Rattle.layout_common.specs.declared.glyph_row.GlyphRow.{GlyphRow}
@@ -16,7 +16,7 @@ use Rattle.layout_tables.specs.declared.pair.ClassPairs.{ClassPairs}
 use Rattle.layout_tables.specs.declared.pair.PairPos.{PairPos}
 use Rattle.layout_tables.specs.declared.pair.PairPos.TheVariants.{Glyphs, Classes}
 use Rattle.font_positioning.specs.Pairs.{pair_values, pair_size, glyph_pairs}
-use Rattle.font_positioning.specs.Subtables.{known}
+use Rattle.font_records.specs.Turns.{some_value}
 
 -- the rows of the class definition table at an offset from the subtable's start; a null offset has none
 abbrev pub class_rows : ℕ → List ℕ → ℕ → ℕ → Result (List (GlyphRow ℕ) × ℕ) TableFault
@@ -51,12 +51,12 @@ classes_of glyphs rows1 rows2 count1 count2 records = record {
 
 -- format 2: coverageOffset at 2, valueFormat1 at 4, valueFormat2 at 6, classDef1Offset at 8, classDef2Offset at 10,
 -- class1Count at 12, class2Count at 14, class1Records at 16. First glyphs whose class has no records aren't covered; second
--- ones have class 0
+-- ones have class 0. A Class1Record takes a row of room, and each of its Class2Records
 abbrev pub class_pairs : ℕ → List ℕ → ℕ → Result (ClassPairs × ℕ) TableFault
 class_pairs room table at = and_then (need table at 16) (λ _.
     and_then (need table (at + 16) (pair_size (word table (at + 4)) (word table (at + 6)) * word table (at + 14) * word table (at + 12))) (λ _.
-    and_then (taken room (word table (at + 12) * word table (at + 14))) (λ left.
-    and_then (covered left table at (word table (at + 2))) (λ c.
+    and_then (room_after room (word table (at + 12) * (word table (at + 14) + 1))) (λ left.
+    and_then (glyphs_in_room left table at (word table (at + 2))) (λ c.
     and_then (class_rows c.1 table at (word table (at + 8))) (λ one.
     and_then (class_rows one.1 table at (word table (at + 10))) (λ two.
     Ok (
@@ -70,8 +70,8 @@ class_pairs room table at = and_then (need table at 16) (λ _.
 -- a subtable by its format; one of an unknown format is left out
 abbrev pub pair_of_format : ℕ → ℕ → List ℕ → ℕ → Result (Option PairPos × ℕ) TableFault
 pair_of_format format room table at =
-    if format == 1 then known (λ rows. Glyphs (record { rows = rows })) (glyph_pairs room table at)
-    else (if format == 2 then known (λ pairs. Classes pairs) (class_pairs room table at) else Ok (None, room))
+    if format == 1 then some_value (λ rows. Glyphs (record { rows = rows })) (glyph_pairs room table at)
+    else (if format == 2 then some_value (λ pairs. Classes pairs) (class_pairs room table at) else Ok (None, room))
 
 -- the pair adjustment subtable at an offset
 abbrev pub pair_pos_at : ℕ → List ℕ → ℕ → Result (Option PairPos × ℕ) TableFault

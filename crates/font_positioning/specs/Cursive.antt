@@ -8,7 +8,7 @@ use Rattle.layout_common.specs.declared.glyph_row.GlyphRow.{GlyphRow}
 use Rattle.layout_tables.specs.declared.cursive.EntryExit.{EntryExit}
 use Rattle.layout_tables.specs.declared.cursive.CursivePos.{CursivePos}
 use Rattle.font_positioning.specs.Anchors.{anchor_at}
-use Rattle.font_positioning.specs.Subtables.{known}
+use Rattle.font_records.specs.Turns.{some_value}
 
 -- EntryExitRecord: entryAnchorOffset at 0, exitAnchorOffset at 2, from the subtable's start
 abbrev pub entry_exit : ℕ → List ℕ → ℕ → Result EntryExit TableFault
@@ -31,4 +31,4 @@ cursive_rows room table at = and_then (need table at 6) (λ _. and_then (need ta
 -- the cursive attachment subtable at an offset; one of an unknown format is left out
 abbrev pub cursive_pos_at : ℕ → List ℕ → ℕ → Result (Option CursivePos × ℕ) TableFault
 cursive_pos_at room table at = and_then (need table at 2) (λ _.
-    if word table at == 1 then known cursive_of (cursive_rows room table at) else Ok (None, room))
+    if word table at == 1 then some_value cursive_of (cursive_rows room table at) else Ok (None, room))

@@ -1,6 +1,5 @@
 pub mod Values
 pub mod Anchors
-pub mod Subtables
 pub mod Single
 pub mod Pairs
 pub mod ClassPairs

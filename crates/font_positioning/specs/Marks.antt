@@ -3,7 +3,7 @@ use Rattle.std.specs.Prelude.{ℕ, ◌+◌, ◌*◌, ◌==◌, nat_lt, if◌then
 use Rattle.font_bytes.specs.declared.fault.TableFault.{TableFault}
 use Rattle.font_bytes.specs.Results.{and_then}
 use Rattle.font_bytes.specs.Words.{need, word}
-use Rattle.font_records.specs.Turns.{array_at}
+use Rattle.font_records.specs.Turns.{array_at, some_value}
 use Rattle.font_records.specs.Covered.{rows_at}
 use Rattle.layout_common.specs.declared.glyph_row.GlyphRow.{GlyphRow}
 use Rattle.layout_tables.specs.declared.mark.MarkRecord.{MarkRecord}
@@ -13,7 +13,6 @@ use Rattle.layout_tables.specs.declared.mark.LigatureRow.{LigatureRow}
 use Rattle.layout_tables.specs.declared.mark.MarkBasePos.{MarkBasePos}
 use Rattle.layout_tables.specs.declared.mark.MarkLigPos.{MarkLigPos}
 use Rattle.font_positioning.specs.Anchors.{anchor_at, anchor_list}
-use Rattle.font_positioning.specs.Subtables.{known}
 
 -- ---- arrays of records
 
@@ -33,13 +32,13 @@ mark_row class_count table base room at glyph = if nat_lt (word table at) class_
 
 -- BaseRecord, Mark2Record: the offsets of an anchor for each class, from the array's start
 abbrev pub base_row : ℕ → List ℕ → ℕ → ℕ → ℕ → ℕ → Result (Option BaseRow × ℕ) TableFault
-base_row class_count table base room at glyph = known (λ anchors. record { glyph = glyph; anchors = anchors }) (anchor_list base table at class_count room)
+base_row class_count table base room at glyph = some_value (λ anchors. record { glyph = glyph; anchors = anchors }) (anchor_list base table at class_count room)
 
 -- ---- ligatures
 
 -- ComponentRecord: the offsets of an anchor for each class, from the ligature attach table's start
 abbrev pub component_item : ℕ → ℕ → List ℕ → ℕ → ℕ → Result (Option ComponentRecord × ℕ) TableFault
-component_item class_count base table room at = known (λ anchors. record { anchors = anchors }) (anchor_list base table at class_count room)
+component_item class_count base table room at = some_value (λ anchors. record { anchors = anchors }) (anchor_list base table at class_count room)
 
 -- the components of the ligature attach table at an offset: componentCount at 0, componentRecords at 2
 abbrev pub component_list : ℕ → ℕ → List ℕ → ℕ → Result (List ComponentRecord × ℕ) TableFault
@@ -50,7 +49,7 @@ component_list class_count room table at = and_then (need table at 2) (λ _. and
 -- leads to no row
 abbrev pub ligature_row : ℕ → List ℕ → ℕ → ℕ → ℕ → ℕ → Result (Option LigatureRow × ℕ) TableFault
 ligature_row class_count table base room at glyph = if word table at == 0 then Ok (None, room)
-    else known (λ components. record { glyph = glyph; components = components }) (component_list class_count room table (base + word table at))
+    else some_value (λ components. record { glyph = glyph; components = components }) (component_list class_count room table (base + word table at))
 
 -- ---- subtables
 
@@ -73,9 +72,9 @@ mark_ligature room table at = and_then (need table at 12) (λ _.
 -- the mark to base or mark to mark attachment subtable at an offset; one of an unknown format is left out
 abbrev pub mark_base_pos_at : ℕ → List ℕ → ℕ → Result (Option MarkBasePos × ℕ) TableFault
 mark_base_pos_at room table at = and_then (need table at 2) (λ _.
-    if word table at == 1 then known (λ p. p) (mark_base room table at) else Ok (None, room))
+    if word table at == 1 then some_value (λ p. p) (mark_base room table at) else Ok (None, room))
 
 -- the mark to ligature attachment subtable at an offset; one of an unknown format is left out
 abbrev pub mark_lig_pos_at : ℕ → List ℕ → ℕ → Result (Option MarkLigPos × ℕ) TableFault
 mark_lig_pos_at room table at = and_then (need table at 2) (λ _.
-    if word table at == 1 then known (λ p. p) (mark_ligature room table at) else Ok (None, room))
+    if word table at == 1 then some_value (λ p. p) (mark_ligature room table at) else Ok (None, room))

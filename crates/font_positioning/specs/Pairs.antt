@@ -4,11 +4,12 @@ use Rattle.font_bytes.specs.declared.fault.TableFault.{TableFault}
 use Rattle.font_bytes.specs.Results.{and_then}
 use Rattle.font_bytes.specs.Words.{need, word}
 use Rattle.font_bytes.specs.Records.{records}
-use Rattle.font_bytes.specs.Room.{taken}
+use Rattle.font_bytes.specs.Room.{room_after}
 use Rattle.buffer_rows.specs.KeyOrder.{key_order}
 use Rattle.font_common.specs.Rows.{first_rows}
 use Rattle.font_records.specs.Turns.{in_turn, record_offsets}
-use Rattle.font_records.specs.Covered.{covered, first_records}
+use Rattle.font_common.specs.Coverage.{glyphs_in_room}
+use Rattle.font_records.specs.Covered.{first_records}
 use Rattle.layout_tables.specs.PairRows.{pair_order}
 use Rattle.layout_tables.specs.declared.value.ValueRecord.{ValueRecord}
 use Rattle.layout_tables.specs.declared.pair.PairValues.{PairValues}
@@ -44,7 +45,7 @@ by_second rows = key_order (λ r. r.second) rows
 -- the rows of the pair set at an offset: pairValueCount at 0, pairValueRecords at 2
 abbrev pub pair_set : ℕ → ℕ → List ℕ → ℕ → ℕ → ℕ → Result (List PairRow × ℕ) TableFault
 pair_set format1 format2 table room at first = and_then (need table at 2) (λ _.
-    and_then (need table (at + 2) ((2 + pair_size format1 format2) * word table at)) (λ _. and_then (taken room (word table at)) (λ left.
+    and_then (need table (at + 2) ((2 + pair_size format1 format2) * word table at)) (λ _. and_then (room_after room (word table at)) (λ left.
     Ok (by_second (pair_array format1 format2 table first (at + 2) (word table at)), left))))
 
 -- the rows of a first glyph: its record is the offset of a pair set from the subtable's start; a null one is an empty set
@@ -61,7 +62,7 @@ pairs_in format1 format2 start table at count glyphs room =
 -- pair the first counts
 abbrev pub glyph_pairs : ℕ → List ℕ → ℕ → Result (List PairRow × ℕ) TableFault
 glyph_pairs room table at = and_then (need table at 10) (λ _. and_then (need table (at + 10) (2 * word table (at + 8))) (λ _.
-    and_then (taken room (word table (at + 8))) (λ left. and_then (covered left table at (word table (at + 2))) (λ c.
+    and_then (room_after room (word table (at + 8))) (λ left. and_then (glyphs_in_room left table at (word table (at + 2))) (λ c.
     and_then (pairs_in (word table (at + 4)) (word table (at + 6)) at table (at + 10) (word table (at + 8)) c.0 c.1) (λ r.
     Ok (first_rows pair_order (λ row. (row.first, row.second)) None r.0, r.1))))))
 

@@ -3,12 +3,13 @@ use Rattle.std.specs.Prelude.{ℕ, ◌+◌, ◌*◌, ◌==◌, if◌then◌else�
 use Rattle.font_bytes.specs.declared.fault.TableFault.{TableFault}
 use Rattle.font_bytes.specs.Results.{and_then}
 use Rattle.font_bytes.specs.Words.{need, word}
-use Rattle.font_records.specs.Covered.{covered, rows_in, rows_at}
+use Rattle.font_common.specs.Coverage.{glyphs_in_room}
+use Rattle.font_records.specs.Covered.{rows_in, rows_at}
 use Rattle.layout_common.specs.declared.glyph_row.GlyphRow.{GlyphRow}
 use Rattle.layout_tables.specs.declared.value.ValueRecord.{ValueRecord}
 use Rattle.layout_tables.specs.declared.single_pos.SinglePos.{SinglePos}
 use Rattle.font_positioning.specs.Values.{value_size, value_at}
-use Rattle.font_positioning.specs.Subtables.{known}
+use Rattle.font_records.specs.Turns.{some_value}
 
 -- a subtable of rows
 abbrev pub single_of : List (GlyphRow ValueRecord) → SinglePos
@@ -23,8 +24,8 @@ same_value_row value room at glyph = Ok (Some (record { glyph = glyph; value = v
 -- format 1: coverageOffset at 2, valueFormat at 4, valueRecord at 6
 abbrev pub single_same : ℕ → List ℕ → ℕ → Result (Option SinglePos × ℕ) TableFault
 single_same room table at = and_then (need table at 6) (λ _. and_then (need table (at + 6) (value_size (word table (at + 4)))) (λ _.
-    and_then (covered room table at (word table (at + 2))) (λ c.
-    known single_of (rows_in (same_value_row (value_at (word table (at + 4)) table (at + 6))) 0 0 (length c.0) c.0 c.1))))
+    and_then (glyphs_in_room room table at (word table (at + 2))) (λ c.
+    some_value single_of (rows_in (same_value_row (value_at (word table (at + 4)) table (at + 6))) 0 0 (length c.0) c.0 c.1))))
 
 -- ---- format 2
 
@@ -36,7 +37,7 @@ value_row format table room at glyph = Ok (Some (record { glyph = glyph; value =
 abbrev pub single_each : ℕ → List ℕ → ℕ → Result (Option SinglePos × ℕ) TableFault
 single_each room table at = and_then (need table at 8) (λ _.
     and_then (need table (at + 8) (value_size (word table (at + 4)) * word table (at + 6))) (λ _.
-    known single_of (rows_at (value_row (word table (at + 4)) table) table at (word table (at + 2)) (value_size (word table (at + 4))) (at + 8) (word table (at + 6)) room)))
+    some_value single_of (rows_at (value_row (word table (at + 4)) table) table at (word table (at + 2)) (value_size (word table (at + 4))) (at + 8) (word table (at + 6)) room)))
 
 -- ---- both
 

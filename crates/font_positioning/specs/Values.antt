@@ -1,6 +1,6 @@
 -- Value records (OpenType, GPOS, shared tables: value record).
 use Rattle.std.specs.Prelude.{ℕ, ℤ, pos, ◌+◌, ◌*◌, ◌==◌, Bool, not, if◌then◌else◌, List, bit_and, count_ones}
-use Rattle.font_bytes.specs.Words.{signed}
+use Rattle.font_bytes.specs.Words.{signed_word}
 use Rattle.layout_tables.specs.declared.value.ValueRecord.{ValueRecord}
 
 -- whether records of a value format have a field: the format has its bit
@@ -13,7 +13,7 @@ field_size format bit = if has_field format bit then 2 else 0
 
 -- the field of a bit at an offset, 0 where records of the format have none
 abbrev pub field_at : ℕ → ℕ → List ℕ → ℕ → ℤ
-field_at format bit table at = if has_field format bit then signed table at else pos 0
+field_at format bit table at = if has_field format bit then signed_word table at else pos 0
 
 -- the bytes of xPlacement (bit 1); yPlacement has bit 2, xAdvance 4, yAdvance 8
 abbrev pub one_size : ℕ → ℕ

@@ -4,7 +4,7 @@ ghost use Rattle.font_positioning.specs.Anchors.{anchor_table, anchor_at, anchor
 
 use font_bytes::fault::TableFault;
 use font_bytes::room::Room;
-use font_bytes::words::{need, signed, word};
+use font_bytes::words::{need, signed_word, word};
 use font_records::{RecordReader, read_array};
 use layout_tables::value::Anchor;
 use std::alloc::Global;
@@ -17,8 +17,8 @@ fn read_anchor_table(table: &[u8], at: usize) -> Result<Option<Anchor>, TableFau
     let format = word(table, at);
     if format == 1 || format == 2 || format == 3 {
         return Ok(Some(Anchor {
-            x: signed(table, at + 2),
-            y: signed(table, at + 4),
+            x: signed_word(table, at + 2),
+            y: signed_word(table, at + 4),
         }));
     }
     Ok(None)

@@ -7,7 +7,7 @@ use buffer_rows::SortedRows;
 use font_bytes::fault::TableFault;
 use font_bytes::room::Room;
 use font_bytes::words::{need, word};
-use font_records::{RowReader, read_rows};
+use font_records::{RowReader, read_covered_rows};
 use layout_common::glyph_row::GlyphRow;
 use layout_tables::cursive::{CursivePos, EntryExit};
 use std::alloc::Global;
@@ -72,7 +72,7 @@ fn read_cursive_rows(
     let count = usize::from(word(table, at + 4));
     need(table, at + 6, 4 * count)?;
     let reader = EntryExitRows { start: at };
-    let rows = read_rows(
+    let rows = read_covered_rows(
         &reader,
         alloc,
         table,

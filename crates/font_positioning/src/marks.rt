@@ -8,7 +8,7 @@ use buffer_rows::SortedRows;
 use font_bytes::fault::TableFault;
 use font_bytes::room::Room;
 use font_bytes::words::{need, word};
-use font_records::{RecordReader, RowReader, read_array, read_rows};
+use font_records::{RecordReader, RowReader, read_array, read_covered_rows};
 use layout_common::array::Array;
 use layout_common::glyph_row::GlyphRow;
 use layout_tables::mark::{
@@ -236,7 +236,7 @@ fn read_marks(
         class_count,
         base: at,
     };
-    let rows = read_rows(&reader, alloc, table, start, coverage, at + 2, count, room)?;
+    let rows = read_covered_rows(&reader, alloc, table, start, coverage, at + 2, count, room)?;
     Ok(SortedRows::new(rows))
 }
 
@@ -267,7 +267,7 @@ fn read_bases(
         class_count,
         base: at,
     };
-    let rows = read_rows(&reader, alloc, table, start, coverage, at + 2, count, room)?;
+    let rows = read_covered_rows(&reader, alloc, table, start, coverage, at + 2, count, room)?;
     Ok(SortedRows::new(rows))
 }
 
@@ -298,7 +298,7 @@ fn read_ligatures(
         class_count,
         base: at,
     };
-    let rows = read_rows(&reader, alloc, table, start, coverage, at + 2, count, room)?;
+    let rows = read_covered_rows(&reader, alloc, table, start, coverage, at + 2, count, room)?;
     Ok(SortedRows::new(rows))
 }
 

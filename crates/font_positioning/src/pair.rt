@@ -9,7 +9,7 @@ use crate::pair_sets::{PairFormat, read_glyph_pairs};
 use font_bytes::fault::TableFault;
 use font_bytes::room::Room;
 use font_bytes::words::{need, word};
-use font_records::read_covered;
+use font_common::read_glyphs_in_room;
 use layout_common::array::Array;
 use layout_tables::pair::{ClassPairs, GlyphPairs, PairPos};
 use std::alloc::Global;
@@ -37,8 +37,8 @@ fn read_class_pairs(
         at + 16,
         row_size(format, count2) * usize::from(count1),
     )?;
-    room.take(usize::from(count1) * usize::from(count2))?;
-    let glyphs = read_covered(alloc, table, at, word(table, at + 2), room)?;
+    room.take(usize::from(count1) * (usize::from(count2) + 1))?;
+    let glyphs = read_glyphs_in_room(alloc, table, at, u32::from(word(table, at + 2)), room)?;
     let rows1 = read_class_rows_from(alloc, table, at, word(table, at + 8), room)?;
     let rows2 = read_class_rows_from(alloc, table, at, word(table, at + 10), room)?;
     let coverage = first_glyphs(alloc, &glyphs, &rows1, count1)?;

@@ -9,8 +9,8 @@ use crate::values::{value_at, value_size};
 use font_bytes::fault::TableFault;
 use font_bytes::room::Room;
 use font_bytes::words::{need, word};
+use font_common::read_glyphs_in_room;
 use font_common::rows::first_rows;
-use font_records::read_covered;
 use layout_tables::pair::{PairRow, PairValues};
 use layout_tables::pair_rows::PairRows;
 use layout_tables::value::ValueRecord;
@@ -290,7 +290,7 @@ pub(crate) fn read_glyph_pairs(
     let count = usize::from(word(table, at + 8));
     need(table, at + 10, 2 * count)?;
     room.take(count)?;
-    let glyphs = read_covered(alloc, table, at, word(table, at + 2), room)?;
+    let glyphs = read_glyphs_in_room(alloc, table, at, u32::from(word(table, at + 2)), room)?;
     let rows = read_pairs(format, alloc, at, table, &glyphs, at + 10, count, room)?;
     let rows = first_rows(alloc, rows)?;
     let rows = PairRows::new(alloc, rows)?;

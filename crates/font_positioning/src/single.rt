@@ -8,7 +8,8 @@ use buffer_rows::SortedRows;
 use font_bytes::fault::TableFault;
 use font_bytes::room::Room;
 use font_bytes::words::{need, word};
-use font_records::{RowReader, read_covered, read_rows, read_rows_of};
+use font_common::read_glyphs_in_room;
+use font_records::{RowReader, read_covered_rows, read_rows_of_glyphs};
 use layout_common::glyph_row::GlyphRow;
 use layout_tables::single_pos::SinglePos;
 use layout_tables::value::ValueRecord;
@@ -103,8 +104,8 @@ fn read_same(
     let reader = SameValueRows {
         value: value_at(format, table, at + 6),
     };
-    let glyphs = read_covered(alloc, table, at, word(table, at + 2), room)?;
-    let rows = read_rows_of(&reader, alloc, table, &glyphs, 0, glyphs.len(), room)?;
+    let glyphs = read_glyphs_in_room(alloc, table, at, u32::from(word(table, at + 2)), room)?;
+    let rows = read_rows_of_glyphs(&reader, alloc, table, &glyphs, 0, glyphs.len(), room)?;
     Ok(Some(SinglePos {
         rows: SortedRows::new(rows),
     }))
@@ -127,7 +128,7 @@ fn read_each(
     };
     let count = usize::from(word(table, at + 6));
     need(table, at + 8, value_size(reader.format) * count)?;
-    let rows = read_rows(
+    let rows = read_covered_rows(
         &reader,
         alloc,
         table,

@@ -2,7 +2,7 @@
 ghost use Rattle.std.specs.Prelude.{◌≡◌, ◌≤◌, ◌<◌, ◌+◌, length};
 ghost use Rattle.font_positioning.specs.Values.{has_field, field_size, field_at, one_size, two_size, three_size, four_size, value_size, value_at};
 
-use font_bytes::words::signed;
+use font_bytes::words::signed_word;
 use layout_tables::value::ValueRecord;
 
 /// The bits of a value format for the four values of a record, and those after them: for offsets of devices, and without
@@ -38,7 +38,7 @@ fn field_at(format: u16, bit: u16, table: &[u8], at: usize) -> i16
     ensures { result ≡ field_at format bit table.now at }
 {
     if has_field(format, bit) {
-        signed(table, at)
+        signed_word(table, at)
     } else {
         0
     }

@@ -4,14 +4,9 @@ use Rattle.std.specs.Prelude.{ℕ, ◌+◌, nat_le, if◌then◌else◌, List, [
 use Rattle.font_bytes.specs.declared.fault.TableFault.{TableFault}
 use Rattle.font_bytes.specs.Results.{and_then}
 use Rattle.font_bytes.specs.Words.{word}
-use Rattle.font_bytes.specs.Room.{taken}
-use Rattle.font_common.specs.Coverage.{glyphs_at_offset}
+use Rattle.font_bytes.specs.Room.{room_after}
+use Rattle.font_common.specs.Coverage.{glyphs_in_room}
 use Rattle.font_records.specs.Turns.{in_turn, if_any, record_offsets}
-
--- the glyphs of the coverage table at an offset from a table's start, by their coverage indices, and the room that they
--- leave; a null offset is an empty coverage
-abbrev pub covered : ℕ → List ℕ → ℕ → ℕ → Result (List ℕ × ℕ) TableFault
-covered room table start offset = and_then (glyphs_at_offset table start offset) (λ gs. and_then (taken room (length gs)) (λ left. Ok (gs, left)))
 
 -- glyphs from a least one on, each with the offset of its record: as many as there are of both. A repeated glyph has its
 -- first record
@@ -28,7 +23,7 @@ rows_in row width at count glyphs room = in_turn (λ r p. if_any (row r p.1 p.0)
 -- the rows of the glyphs of a coverage. Each record takes a row of room, and each glyph
 abbrev pub rows_at : {R : Type 0} → (ℕ → ℕ → ℕ → Result (Option R × ℕ) TableFault) → List ℕ → ℕ → ℕ → ℕ → ℕ → ℕ → ℕ → Result (List R × ℕ) TableFault
 rows_at row table start coverage width at count room =
-    and_then (taken room count) (λ left. and_then (covered left table start coverage) (λ c. rows_in row width at count c.0 c.1))
+    and_then (room_after room count) (λ left. and_then (glyphs_in_room left table start coverage) (λ c. rows_in row width at count c.0 c.1))
 
 -- the rows of a glyph at its record, none of one below the least
 abbrev pub rows_if : {R : Type 0} → (ℕ → ℕ → ℕ → Result (List R × ℕ) TableFault) → ℕ → ℕ → ℕ → ℕ → Result (List R × ℕ) TableFault

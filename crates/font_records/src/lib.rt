@@ -5,7 +5,7 @@ pub mod array;
 pub mod rows;
 
 pub use array::{RecordReader, read_array};
-pub use rows::{RowReader, read_covered, read_rows, read_rows_of};
+pub use rows::{RowReader, read_covered_rows, read_rows_of_glyphs};
 
 #[cfg(test)]
 mod tests;

@@ -2,12 +2,12 @@
 ghost use Rattle.std.specs.Prelude.{◌≡◌, ◌≢◌, ◌≤◌, ◌<◌, ◌+◌, ◌*◌, ℕ, List, None, Option, Result, IfOk, IfErr, IfSome, Ok, Err, true, length, nat_le, if◌then◌else◌};
 ghost use Rattle.font_bytes.specs.declared.fault.TableFault.{TableFault};
 ghost use Rattle.buffer_rows.specs.Keys.{numbers_rise};
-ghost use Rattle.font_records.specs.Covered.{covered, rows_in, rows_at};
+ghost use Rattle.font_records.specs.Covered.{rows_in, rows_at};
 
 use crate::array::push_some;
 use font_bytes::fault::TableFault;
 use font_bytes::room::Room;
-use font_common::read_glyphs_at_offset;
+use font_common::read_glyphs_in_room;
 use std::alloc::Global;
 
 /// How the row of a glyph is read. Offsets that its record has count from a base.
@@ -43,28 +43,9 @@ pub trait RowReader {
             → row_at self.now table.now room.old.left at glyph ≡ Err e) };
 }
 
-/// Reads the glyphs of the coverage table at an offset from the start of a table, by their coverage indices. A null
-/// offset is an empty coverage. A glyph takes a row of room.
-pub fn read_covered(
-    alloc: Global,
-    table: &[u8],
-    start: usize,
-    offset: u16,
-    room: &mut Room,
-) -> Result<Vec<u16>, TableFault>
-    requires { start ≤ length table.now }
-    ensures ok { IfOk result (λ v. covered room.old.left table.now start offset ≡ Ok (v.items, room.new.left)) }
-    ensures refused { IfErr result (λ e. e ≢ TableFault.OutOfMemory
-        → covered room.old.left table.now start offset ≡ Err e) }
-{
-    let glyphs = read_glyphs_at_offset(alloc, table, start, u32::from(offset))?;
-    room.take(glyphs.len())?;
-    Ok(glyphs)
-}
-
 /// Reads the rows of the glyphs of a coverage, whose offset counts from the start of a table, by an array of records. A
 /// record takes a row of room.
-pub fn read_rows<R: RowReader>(
+pub fn read_covered_rows<R: RowReader>(
     reader: &R,
     alloc: Global,
     table: &[u8],
@@ -84,12 +65,12 @@ pub fn read_rows<R: RowReader>(
         table.now start coverage (R.width_of reader.now) at count room.old.left ≡ Err e) }
 {
     room.take(count)?;
-    let glyphs = read_covered(alloc, table, start, coverage, room)?;
-    read_rows_of(reader, alloc, table, &glyphs, at, count, room)
+    let glyphs = read_glyphs_in_room(alloc, table, start, u32::from(coverage), room)?;
+    read_rows_of_glyphs(reader, alloc, table, &glyphs, at, count, room)
 }
 
 /// Reads the rows of glyphs by an array of records.
-pub fn read_rows_of<R: RowReader>(
+pub fn read_rows_of_glyphs<R: RowReader>(
     reader: &R,
     alloc: Global,
     table: &[u8],

@@ -3,16 +3,16 @@ use Rattle.std.specs.Prelude.{ℕ, ◌+◌, ◌-◌, ◌*◌, ◌==◌, if◌the
 use Rattle.font_bytes.specs.declared.fault.TableFault.{TableFault}
 use Rattle.font_bytes.specs.Results.{and_then}
 use Rattle.font_bytes.specs.Words.{need, word}
-use Rattle.font_records.specs.Turns.{array_at}
+use Rattle.font_records.specs.Turns.{array_at, some_value}
 use Rattle.font_records.specs.Covered.{rows_at}
 use Rattle.layout_tables.specs.Layout.{LigatureTable, LigatureSetTable}
-use Rattle.font_substitution.specs.Glyphs.{glyph_list, known}
+use Rattle.font_substitution.specs.Glyphs.{glyph_list}
 
 -- the ligature table at an offset: ligatureGlyph at 0, componentCount at 2, the components after the first from 4 on. A
 -- ligature without components is none
 abbrev pub ligature_table : ℕ → List ℕ → ℕ → Result (Option LigatureTable × ℕ) TableFault
 ligature_table room table at = and_then (need table at 4) (λ _. if word table (at + 2) == 0 then Ok (None, room)
-    else known (λ gs. record { components = gs; glyph = word table at }) (glyph_list room table (at + 4) (word table (at + 2) - 1)))
+    else some_value (λ gs. record { components = gs; glyph = word table at }) (glyph_list room table (at + 4) (word table (at + 2) - 1)))
 
 -- the ligature of a record of a set: the offset of a ligature table from the set's start; a null one leads to none
 abbrev pub ligature_item : ℕ → List ℕ → ℕ → ℕ → Result (Option LigatureTable × ℕ) TableFault
@@ -29,7 +29,7 @@ set_ligatures table start room offset = if offset == 0 then Ok ([], room) else l
 
 -- the set of a first glyph: its record is the offset of a ligature set table
 abbrev pub set_row : ℕ → List ℕ → ℕ → ℕ → ℕ → Result (Option LigatureSetTable × ℕ) TableFault
-set_row start table room at glyph = known (λ ls. record { first = glyph; ligatures = ls }) (set_ligatures table start room (word table at))
+set_row start table room at glyph = some_value (λ ls. record { first = glyph; ligatures = ls }) (set_ligatures table start room (word table at))
 
 -- format 1: coverageOffset at 2, ligatureSetCount at 4, then the offsets
 abbrev pub ligature_sets : ℕ → List ℕ → ℕ → Result (List LigatureSetTable × ℕ) TableFault
@@ -39,4 +39,4 @@ ligature_sets room table at = and_then (need table at 6) (λ _. and_then (need t
 -- the ligature substitution subtable at an offset; one of an unknown format is left out
 abbrev pub ligature_subst_at : ℕ → List ℕ → ℕ → Result (Option (List LigatureSetTable) × ℕ) TableFault
 ligature_subst_at room table at = and_then (need table at 2) (λ _.
-    if word table at == 1 then known (λ sets. sets) (ligature_sets room table at) else Ok (None, room))
+    if word table at == 1 then some_value (λ sets. sets) (ligature_sets room table at) else Ok (None, room))

@@ -8,7 +8,7 @@ use Rattle.font_common.specs.Offsets.{list_at}
 use Rattle.font_records.specs.Covered.{rows_at}
 use Rattle.layout_common.specs.declared.glyph_row.GlyphRow.{GlyphRow}
 use Rattle.layout_tables.specs.declared.reverse.ReverseChainSubst.{ReverseChainSubst}
-use Rattle.font_substitution.specs.Glyphs.{known}
+use Rattle.font_records.specs.Turns.{some_value}
 use Rattle.font_substitution.specs.Single.{substitute_row}
 
 -- the rows: glyphCount at an offset, substituteGlyphIDs after it
@@ -28,4 +28,4 @@ reverse_chain room table at = and_then (need table at 6) (λ _.
 -- the reverse chaining subtable at an offset; one of an unknown format is left out
 abbrev pub reverse_subst_at : ℕ → List ℕ → ℕ → Result (Option ReverseChainSubst × ℕ) TableFault
 reverse_subst_at room table at = and_then (need table at 2) (λ _.
-    if word table at == 1 then known (λ r. r) (reverse_chain room table at) else Ok (None, room))
+    if word table at == 1 then some_value (λ r. r) (reverse_chain room table at) else Ok (None, room))

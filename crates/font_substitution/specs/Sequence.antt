@@ -7,7 +7,8 @@ use Rattle.font_records.specs.Covered.{rows_at}
 use Rattle.layout_tables.specs.declared.sequence.SequenceRow.{SequenceRow}
 use Rattle.layout_tables.specs.declared.sequence.MultipleSubst.{MultipleSubst}
 use Rattle.layout_tables.specs.declared.sequence.AlternateSubst.{AlternateSubst}
-use Rattle.font_substitution.specs.Glyphs.{counted_glyphs, known}
+use Rattle.font_substitution.specs.Glyphs.{counted_glyphs}
+use Rattle.font_records.specs.Turns.{some_value}
 
 -- a subtable of rows
 abbrev pub multiple_of : List SequenceRow → MultipleSubst
@@ -24,7 +25,7 @@ sequence_glyphs table start room offset = if offset == 0 then Ok ([], room) else
 
 -- the row of a glyph: its record is the offset of a sequence table, or of an alternate set
 abbrev pub sequence_row : ℕ → List ℕ → ℕ → ℕ → ℕ → Result (Option SequenceRow × ℕ) TableFault
-sequence_row start table room at glyph = known (λ gs. record { glyph = glyph; glyphs = gs }) (sequence_glyphs table start room (word table at))
+sequence_row start table room at glyph = some_value (λ gs. record { glyph = glyph; glyphs = gs }) (sequence_glyphs table start room (word table at))
 
 -- the rows of format 1: coverageOffset at 2, sequenceCount or alternateSetCount at 4, then the offsets
 abbrev pub sequence_rows : ℕ → List ℕ → ℕ → Result (List SequenceRow × ℕ) TableFault
@@ -34,9 +35,9 @@ sequence_rows room table at = and_then (need table at 6) (λ _. and_then (need t
 -- the multiple substitution subtable at an offset; one of an unknown format is left out
 abbrev pub multiple_subst_at : ℕ → List ℕ → ℕ → Result (Option MultipleSubst × ℕ) TableFault
 multiple_subst_at room table at = and_then (need table at 2) (λ _.
-    if word table at == 1 then known multiple_of (sequence_rows room table at) else Ok (None, room))
+    if word table at == 1 then some_value multiple_of (sequence_rows room table at) else Ok (None, room))
 
 -- the alternate substitution subtable at an offset; one of an unknown format is left out
 abbrev pub alternate_subst_at : ℕ → List ℕ → ℕ → Result (Option AlternateSubst × ℕ) TableFault
 alternate_subst_at room table at = and_then (need table at 2) (λ _.
-    if word table at == 1 then known alternate_of (sequence_rows room table at) else Ok (None, room))
+    if word table at == 1 then some_value alternate_of (sequence_rows room table at) else Ok (None, room))

@@ -3,10 +3,11 @@ use Rattle.std.specs.Prelude.{ℕ, ◌+◌, ◌*◌, ◌%◌, ◌^◌, ◌==◌,
 use Rattle.font_bytes.specs.declared.fault.TableFault.{TableFault}
 use Rattle.font_bytes.specs.Results.{and_then}
 use Rattle.font_bytes.specs.Words.{need, word}
-use Rattle.font_records.specs.Covered.{covered, rows_in, rows_at}
+use Rattle.font_common.specs.Coverage.{glyphs_in_room}
+use Rattle.font_records.specs.Covered.{rows_in, rows_at}
 use Rattle.layout_common.specs.declared.glyph_row.GlyphRow.{GlyphRow}
 use Rattle.layout_tables.specs.declared.single_subst.SingleSubst.{SingleSubst}
-use Rattle.font_substitution.specs.Glyphs.{known}
+use Rattle.font_records.specs.Turns.{some_value}
 
 -- a subtable of rows
 abbrev pub single_of : List (GlyphRow ℕ) → SingleSubst
@@ -20,8 +21,8 @@ delta_row delta room at glyph = Ok (Some (record { glyph = glyph; value = (glyph
 
 -- format 1: coverageOffset at 2, deltaGlyphID at 4
 abbrev pub single_delta : ℕ → List ℕ → ℕ → Result (Option SingleSubst × ℕ) TableFault
-single_delta room table at = and_then (need table at 6) (λ _. and_then (covered room table at (word table (at + 2))) (λ c.
-    known single_of (rows_in (delta_row (word table (at + 4))) 0 0 (length c.0) c.0 c.1)))
+single_delta room table at = and_then (need table at 6) (λ _. and_then (glyphs_in_room room table at (word table (at + 2))) (λ c.
+    some_value single_of (rows_in (delta_row (word table (at + 4))) 0 0 (length c.0) c.0 c.1)))
 
 -- ---- format 2
 
@@ -32,7 +33,7 @@ substitute_row table room at glyph = Ok (Some (record { glyph = glyph; value = w
 -- format 2: coverageOffset at 2, glyphCount at 4, substituteGlyphIDs at 6
 abbrev pub single_listed : ℕ → List ℕ → ℕ → Result (Option SingleSubst × ℕ) TableFault
 single_listed room table at = and_then (need table at 6) (λ _. and_then (need table (at + 6) (2 * word table (at + 4))) (λ _.
-    known single_of (rows_at (substitute_row table) table at (word table (at + 2)) 2 (at + 6) (word table (at + 4)) room)))
+    some_value single_of (rows_at (substitute_row table) table at (word table (at + 2)) 2 (at + 6) (word table (at + 4)) room)))
 
 -- ---- both
 

@@ -7,7 +7,7 @@ use crate::glyphs::read_glyph_list;
 use font_bytes::fault::TableFault;
 use font_bytes::room::Room;
 use font_bytes::words::{need, word};
-use font_records::{RecordReader, RowReader, read_array, read_rows};
+use font_records::{RecordReader, RowReader, read_array, read_covered_rows};
 use layout_tables::ligature::{Ligature, LigatureSet, LigatureSubst};
 use std::alloc::Global;
 
@@ -150,7 +150,7 @@ fn read_sets(
     let count = usize::from(word(table, at + 4));
     need(table, at + 6, 2 * count)?;
     let reader = LigatureSets { start: at };
-    let sets = read_rows(
+    let sets = read_covered_rows(
         &reader,
         alloc,
         table,

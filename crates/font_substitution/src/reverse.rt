@@ -8,7 +8,7 @@ use font_bytes::fault::TableFault;
 use font_bytes::room::Room;
 use font_bytes::words::{need, word};
 use font_common::{CoverageReader, read_list};
-use font_records::read_rows;
+use font_records::read_covered_rows;
 use layout_common::array::Array;
 use layout_common::glyph_row::GlyphRow;
 use layout_tables::reverse::ReverseChainSubst;
@@ -31,7 +31,7 @@ fn read_reverse_rows(
     let count = usize::from(word(table, at));
     need(table, at + 2, 2 * count)?;
     let coverage = word(table, start + 2);
-    let rows = read_rows(
+    let rows = read_covered_rows(
         &SubstituteRows,
         alloc,
         table,

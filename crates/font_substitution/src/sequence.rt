@@ -8,7 +8,7 @@ use buffer_rows::SortedRows;
 use font_bytes::fault::TableFault;
 use font_bytes::room::Room;
 use font_bytes::words::{need, word};
-use font_records::{RowReader, read_rows};
+use font_records::{RowReader, read_covered_rows};
 use layout_common::array::Array;
 use layout_tables::sequence::{AlternateSubst, MultipleSubst, SequenceRow};
 use std::alloc::Global;
@@ -85,7 +85,7 @@ fn read_sequence_rows(
     let count = usize::from(word(table, at + 4));
     need(table, at + 6, 2 * count)?;
     let reader = SequenceRows { start: at };
-    let rows = read_rows(
+    let rows = read_covered_rows(
         &reader,
         alloc,
         table,

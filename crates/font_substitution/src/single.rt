@@ -6,7 +6,8 @@ use buffer_rows::SortedRows;
 use font_bytes::fault::TableFault;
 use font_bytes::room::Room;
 use font_bytes::words::{need, word};
-use font_records::{RowReader, read_covered, read_rows, read_rows_of};
+use font_common::read_glyphs_in_room;
+use font_records::{RowReader, read_covered_rows, read_rows_of_glyphs};
 use layout_common::glyph_row::GlyphRow;
 use layout_tables::single_subst::SingleSubst;
 use std::alloc::Global;
@@ -96,8 +97,8 @@ fn read_delta(
     let reader = DeltaRows {
         delta: word(table, at + 4),
     };
-    let glyphs = read_covered(alloc, table, at, word(table, at + 2), room)?;
-    let rows = read_rows_of(&reader, alloc, table, &glyphs, 0, glyphs.len(), room)?;
+    let glyphs = read_glyphs_in_room(alloc, table, at, u32::from(word(table, at + 2)), room)?;
+    let rows = read_rows_of_glyphs(&reader, alloc, table, &glyphs, 0, glyphs.len(), room)?;
     Ok(Some(SingleSubst {
         rows: SortedRows::new(rows),
     }))
@@ -117,7 +118,7 @@ fn read_listed(
     need(table, at, 6)?;
     let count = usize::from(word(table, at + 4));
     need(table, at + 6, 2 * count)?;
-    let rows = read_rows(
+    let rows = read_covered_rows(
         &SubstituteRows,
         alloc,
         table,

@@ -7,10 +7,10 @@ use Rattle.font_contexts.proofs.rules.read_records.Goals as goal
 
 pub loop-index-preserved : goal.loop-index-preserved
 loop-index-preserved c =
-    let more = records_more (lookup_record c.args.table.now) 4 c.args.place.at c.args.place.count c.loop-index.index (omega arith) in
+    let more = records_more (lookup_record c.args.table.now) 4 c.args.array.at c.args.array.count c.loop-index.index (omega arith) in
     grind (arith, common_steps, known_step, more)
 
 pub returns-clause-ok : goal.returns-clause-ok
 returns-clause-ok c =
-    let end = records_end (lookup_record c.args.table.now) 4 c.args.place.at c.args.place.count c.loop-index.index (omega arith) in
+    let end = records_end (lookup_record c.args.table.now) 4 c.args.array.at c.args.array.count c.loop-index.index (omega arith) in
     grind (arith, common_steps, end)

@@ -5,5 +5,5 @@ use Rattle.font_contexts.proofs.rules.read_records.Given as goal
 
 -- the records so far and the known ones of those that are left are all
 abbrev pub invariant-loop-index : goal.invariant-loop-index
-invariant-loop-index l = l.records.items ++ known_records l.lookup_count (records (lookup_record l.table) 4 (l.place.at + 4 * l.index) (l.place.count - l.index))
-    ≡ lookup_records l.lookup_count l.table l.place
+invariant-loop-index l = l.records.items ++ known_records l.lookup_count (records (lookup_record l.table) 4 (l.array.at + 4 * l.index) (l.array.count - l.index))
+    ≡ lookup_records l.lookup_count l.table l.array

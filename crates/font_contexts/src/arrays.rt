@@ -1,35 +1,35 @@
-//! Where the arrays of a rule stand (OpenType, chapter 2, sequence rule and chained sequence rule tables).
+//! The arrays of a rule (OpenType, chapter 2, sequence rule and chained sequence rule tables).
 ghost use Rattle.std.specs.Prelude.{◌≡◌, ◌≤◌, ◌<◌, ◌+◌, ◌*◌, ◌^◌, IfOk, length};
-ghost use Rattle.font_contexts.specs.Places.{array_at, chained_places, counted_array, element_count, end_of, no_array, places_at, plain_places};
+ghost use Rattle.font_contexts.specs.Arrays.{array_at, chained_arrays, counted_array, element_count, end_of, no_array, arrays_at, plain_arrays};
 
 use font_bytes::fault::TableFault;
 use font_bytes::words::{need, word};
 
 /// An array of a table: the offset of its first element, and how many there are.
 #[derive(Clone, Copy)]
-pub struct ArrayPlace {
+pub struct ElementArray {
     pub at: usize,
     pub count: usize,
 }
 
 /// The arrays of a rule: glyphs, classes or offsets of coverages, and lookup records.
 #[derive(Clone, Copy)]
-pub struct RulePlaces {
-    pub backtrack: ArrayPlace,
-    pub input: ArrayPlace,
-    pub lookahead: ArrayPlace,
-    pub records: ArrayPlace,
+pub struct RuleArrays {
+    pub backtrack: ElementArray,
+    pub input: ElementArray,
+    pub lookahead: ElementArray,
+    pub records: ElementArray,
 }
 
 /// No array.
-fn no_array() -> ArrayPlace
+fn no_array() -> ElementArray
     ensures { result ≡ no_array }
 {
-    ArrayPlace { at: 0, count: 0 }
+    ElementArray { at: 0, count: 0 }
 }
 
 /// An array of at most 65,535 elements of a width at an offset, within the table.
-fn array_at(width: usize, table: &[u8], at: usize, count: usize) -> Result<ArrayPlace, TableFault>
+fn array_at(width: usize, table: &[u8], at: usize, count: usize) -> Result<ElementArray, TableFault>
     requires count_is_word { count < 2 ^ 16 }
     requires width_is_small { width ≤ 4 }
     ensures value { result ≡ array_at width table.now at count }
@@ -37,7 +37,7 @@ fn array_at(width: usize, table: &[u8], at: usize, count: usize) -> Result<Array
     ensures small { IfOk result (λ a. a.count < 2 ^ 16) }
 {
     need(table, at, width * count)?;
-    Ok(ArrayPlace { at, count })
+    Ok(ElementArray { at, count })
 }
 
 /// An array after its count, of whose elements the first ones are missing.
@@ -46,7 +46,7 @@ pub fn counted_array(
     missing: u16,
     table: &[u8],
     at: usize,
-) -> Result<ArrayPlace, TableFault>
+) -> Result<ElementArray, TableFault>
     requires width_is_small { width ≤ 4 }
     ensures value { result ≡ counted_array width missing table.now at }
     ensures within { IfOk result (λ a. a.at + width * a.count ≤ length table.now) }
@@ -57,9 +57,9 @@ pub fn counted_array(
     array_at(width, table, at + 2, usize::from(count))
 }
 
-/// The places of the arrays of a rule, or of format 3, without backtrack and lookahead.
-fn plain_places(missing: u16, table: &[u8], at: usize) -> Result<RulePlaces, TableFault>
-    ensures value { result ≡ plain_places missing table.now at }
+/// The arrays of a rule, or of format 3, without backtrack and lookahead.
+fn plain_arrays(missing: u16, table: &[u8], at: usize) -> Result<RuleArrays, TableFault>
+    ensures value { result ≡ plain_arrays missing table.now at }
     ensures backtrack { IfOk result (λ p. p.backtrack.at + 2 * p.backtrack.count ≤ length table.now) }
     ensures input { IfOk result (λ p. p.input.at + 2 * p.input.count ≤ length table.now) }
     ensures lookahead { IfOk result (λ p. p.lookahead.at + 2 * p.lookahead.count ≤ length table.now) }
@@ -70,7 +70,7 @@ fn plain_places(missing: u16, table: &[u8], at: usize) -> Result<RulePlaces, Tab
     let input = array_at(2, table, at + 4, usize::from(count))?;
     let records_at = input.at + 2 * input.count;
     let records = array_at(4, table, records_at, usize::from(word(table, at + 2)))?;
-    Ok(RulePlaces {
+    Ok(RuleArrays {
         backtrack: no_array(),
         input,
         lookahead: no_array(),
@@ -78,9 +78,9 @@ fn plain_places(missing: u16, table: &[u8], at: usize) -> Result<RulePlaces, Tab
     })
 }
 
-/// The places of the arrays of a chained rule, or of format 3 of chained contexts.
-fn chained_places(missing: u16, table: &[u8], at: usize) -> Result<RulePlaces, TableFault>
-    ensures value { result ≡ chained_places missing table.now at }
+/// The arrays of a chained rule, or of format 3 of chained contexts.
+fn chained_arrays(missing: u16, table: &[u8], at: usize) -> Result<RuleArrays, TableFault>
+    ensures value { result ≡ chained_arrays missing table.now at }
     ensures backtrack { IfOk result (λ p. p.backtrack.at + 2 * p.backtrack.count ≤ length table.now) }
     ensures input { IfOk result (λ p. p.input.at + 2 * p.input.count ≤ length table.now) }
     ensures lookahead { IfOk result (λ p. p.lookahead.at + 2 * p.lookahead.count ≤ length table.now) }
@@ -90,7 +90,7 @@ fn chained_places(missing: u16, table: &[u8], at: usize) -> Result<RulePlaces, T
     let input = counted_array(2, missing, table, backtrack.at + 2 * backtrack.count)?;
     let lookahead = counted_array(2, 0, table, input.at + 2 * input.count)?;
     let records = counted_array(4, 0, table, lookahead.at + 2 * lookahead.count)?;
-    Ok(RulePlaces {
+    Ok(RuleArrays {
         backtrack,
         input,
         lookahead,
@@ -98,28 +98,28 @@ fn chained_places(missing: u16, table: &[u8], at: usize) -> Result<RulePlaces, T
     })
 }
 
-/// The places of the arrays of a rule, of whose input sequence the first items are missing in its table.
-pub fn places_at(
+/// The arrays of a rule, of whose input sequence the first items are missing in its table.
+pub fn arrays_at(
     chained: bool,
     missing: u16,
     table: &[u8],
     at: usize,
-) -> Result<RulePlaces, TableFault>
-    ensures value { result ≡ places_at chained missing table.now at }
+) -> Result<RuleArrays, TableFault>
+    ensures value { result ≡ arrays_at chained missing table.now at }
     ensures backtrack { IfOk result (λ p. p.backtrack.at + 2 * p.backtrack.count ≤ length table.now) }
     ensures input { IfOk result (λ p. p.input.at + 2 * p.input.count ≤ length table.now) }
     ensures lookahead { IfOk result (λ p. p.lookahead.at + 2 * p.lookahead.count ≤ length table.now) }
     ensures records { IfOk result (λ p. p.records.at + 4 * p.records.count ≤ length table.now) }
 {
     if chained {
-        chained_places(missing, table, at)
+        chained_arrays(missing, table, at)
     } else {
-        plain_places(missing, table, at)
+        plain_arrays(missing, table, at)
     }
 }
 
 /// How many elements the arrays of a rule have.
-pub fn element_count(p: RulePlaces) -> usize
+pub fn element_count(p: RuleArrays) -> usize
     requires backtrack { p.backtrack.count < 2 ^ 62 }
     requires input { p.input.count < 2 ^ 62 }
     requires lookahead { p.lookahead.count < 2 ^ 62 }

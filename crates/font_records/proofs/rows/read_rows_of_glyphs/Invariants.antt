@@ -3,7 +3,7 @@ use Rattle.font_bytes.specs.Records.{records}
 use Rattle.font_records.specs.Turns.{if_any}
 use Rattle.font_records.specs.Covered.{rows_in}
 use Rattle.font_records.proofs.Covered.{rows_from, rise_from}
-use Rattle.font_records.proofs.rows.read_rows_of.Given as goal
+use Rattle.font_records.proofs.rows.read_rows_of_glyphs.Given as goal
 
 -- the rows so far, and those of the glyphs and records that are left, are all; these records are within the bytes; what
 -- rises from the least glyph on may follow the rows

@@ -1,16 +1,16 @@
 use Rattle.std.proofs.Common.{◌+◌, arith}
 use Rattle.std.proofs.lemmas.Grind.{common_steps}
-use Rattle.font_lists.specs.Variations.{feature_place}
+use Rattle.font_lists.specs.Variations.{alternate_feature}
 use Rattle.font_bytes.proofs.Recorded.{records_more, records_end}
 use Rattle.font_common.proofs.Coverages.{one_done}
-use Rattle.font_lists.proofs.variations.read_places.Goals as goal
+use Rattle.font_lists.proofs.variations.read_alternates.Goals as goal
 
 pub loop-index-preserved : goal.loop-index-preserved
 loop-index-preserved c =
-    let more = records_more (feature_place c.args.table.now c.args.base) 6 c.args.at c.args.count c.loop-index.index (omega arith) in
+    let more = records_more (alternate_feature c.args.table.now c.args.base) 6 c.args.at c.args.count c.loop-index.index (omega arith) in
     grind (arith, common_steps, one_done, more)
 
 pub returns-clause-ok : goal.returns-clause-ok
 returns-clause-ok c =
-    let end = records_end (feature_place c.args.table.now c.args.base) 6 c.args.at c.args.count c.loop-index.index (omega arith) in
+    let end = records_end (alternate_feature c.args.table.now c.args.base) 6 c.args.at c.args.count c.loop-index.index (omega arith) in
     grind (arith, common_steps, end)

@@ -7,7 +7,7 @@ use Rattle.font_records.specs.Turns.{if_any}
 use Rattle.font_records.specs.Covered.{rows_in}
 use Rattle.font_records.proofs.Turns.{within_more, any_done, any_refused}
 use Rattle.font_records.proofs.Covered.{rows_from, rows_more, rows_end, row_done, row_refused, row_if, any_if, rise_from, rise_row, rise_all}
-use Rattle.font_records.proofs.rows.read_rows_of.Goals as goal
+use Rattle.font_records.proofs.rows.read_rows_of_glyphs.Goals as goal
 
 pub read_first-requires-clause-within : goal.read_first-requires-clause-within
 read_first-requires-clause-within g c =

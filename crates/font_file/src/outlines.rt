@@ -3,13 +3,13 @@ ghost use Rattle.std.specs.Prelude.{◌≡◌, ◌≢◌, ◌≤◌, ◌*◌, If
 ghost use Rattle.std.specs.Option.{option_copied};
 ghost use Rattle.font_bytes.specs.declared.fault.TableFault.{TableFault};
 ghost use Rattle.font_file.specs.Advances.{bytes_or_none};
-ghost use Rattle.font_file.specs.Drawn.{cff_parts, drawn_by, drawn_by_cff, drawn_by_cff2, drawn_by_glyf, drawn_in, drawn_without_glyf, names_beside, names_in, names_of_post, post_names, rising_names};
+ghost use Rattle.font_file.specs.Outlines.{cff_parts, outlines_by, outlines_of_cff, outlines_of_cff2, outlines_of_glyf, outlines_in, outlines_without_glyf, names_beside, names_in, names_of_post, post_names, rising_names};
 ghost use Rattle.font_bytes.specs.Results.{and_then};
 ghost use Rattle.font_bytes.specs.declared.table_names.FontTable.{FontTable};
 ghost use Rattle.font_file.specs.Found.{table_in};
 
 use crate::advances::{Metrics, bytes_or_none};
-use crate::found::{required_in, table_in};
+use crate::found::{required_table, table_in};
 use crate::headers::Headers;
 use crate::parts::FontParts;
 use crate::rooms::outline_room;
@@ -31,34 +31,34 @@ pub(crate) struct FontFile<'a> {
 
 /// The boxes of glyphs, and the names that the table of their outlines has, each where it was wanted.
 #[derive(Drop)]
-pub(crate) struct Drawn {
+pub(crate) struct Outlines {
     pub(crate) boxes: Vec<GlyphBox>,
     pub(crate) names: Vec<NameRow>,
 }
 
-fn not_drawn(alloc: Global) -> Drawn
+fn no_outlines(alloc: Global) -> Outlines
     ensures { (result.boxes.items ≡ []) × (result.names.items ≡ []) }
 {
-    Drawn {
+    Outlines {
         boxes: Vec::new(alloc),
         names: Vec::new(alloc),
     }
 }
 
 /// What is wanted of the table of CFF with a name; without a wish it isn't read.
-fn drawn_by_cff(
+fn outlines_of_cff(
     alloc: Global,
     parts: FontParts,
     name: FontTable,
     is_cff2: bool,
     table: &[u8],
-) -> Result<Drawn, FontFault>
-    ensures ok { IfOk result (λ d. drawn_by_cff parts name is_cff2 table.now ≡ Ok (d.boxes.items, d.names.items)) }
+) -> Result<Outlines, FontFault>
+    ensures ok { IfOk result (λ d. outlines_of_cff parts name is_cff2 table.now ≡ Ok (d.boxes.items, d.names.items)) }
     ensures refused { IfErr result (λ e. e.cause ≢ TableFault.OutOfMemory
-        → drawn_by_cff parts name is_cff2 table.now ≡ Err e) }
+        → outlines_of_cff parts name is_cff2 table.now ≡ Err e) }
 {
     if !parts.extents && !parts.names {
-        return Ok(not_drawn(alloc));
+        return Ok(no_outlines(alloc));
     }
     let mut room = outline_room(table);
     let wanted = CffParts {
@@ -66,7 +66,7 @@ fn drawn_by_cff(
         names: parts.names,
     };
     match read_cff(alloc, table, is_cff2, wanted, &mut room) {
-        Ok(glyphs) => Ok(Drawn {
+        Ok(glyphs) => Ok(Outlines {
             boxes: glyphs.boxes,
             names: glyphs.names,
         }),
@@ -78,24 +78,24 @@ fn drawn_by_cff(
 }
 
 /// The boxes of outlines of glyf, where they are wanted.
-fn drawn_by_glyf(
+fn outlines_of_glyf(
     alloc: Global,
     parts: FontParts,
     file: FontFile<'_>,
     headers: Headers,
     metrics: Metrics<'_>,
     glyf: &[u8],
-) -> Result<Drawn, FontFault>
+) -> Result<Outlines, FontFault>
     requires { 4 * metrics.long ≤ length (bytes_or_none (option_copied metrics.table)) }
-    ensures ok { IfOk result (λ d. drawn_by_glyf parts file.entry.bytes.now file.entry.index headers
+    ensures ok { IfOk result (λ d. outlines_of_glyf parts file.entry.bytes.now file.entry.index headers
         (option_copied metrics.entry.table, metrics.entry.long) glyf.now ≡ Ok (d.boxes.items, d.names.items)) }
-    ensures refused { IfErr result (λ e. e.cause ≢ TableFault.OutOfMemory → drawn_by_glyf parts file.entry.bytes.now
+    ensures refused { IfErr result (λ e. e.cause ≢ TableFault.OutOfMemory → outlines_of_glyf parts file.entry.bytes.now
         file.entry.index headers (option_copied metrics.entry.table, metrics.entry.long) glyf.now ≡ Err e) }
 {
     if !parts.extents {
-        return Ok(not_drawn(alloc));
+        return Ok(no_outlines(alloc));
     }
-    let loca = required_in(file.bytes, file.index, FontTable::Loca)?;
+    let loca = required_table(file.bytes, file.index, FontTable::Loca)?;
     let hmtx = bytes_or_none(metrics.table);
     match glyf_boxes(
         alloc,
@@ -106,7 +106,7 @@ fn drawn_by_glyf(
         metrics.long,
         headers.count,
     ) {
-        Ok(boxes) => Ok(Drawn {
+        Ok(boxes) => Ok(Outlines {
             boxes,
             names: Vec::new(alloc),
         }),
@@ -118,43 +118,43 @@ fn drawn_by_glyf(
 }
 
 /// The boxes and names of a font without glyf.
-fn drawn_without_glyf(
+fn outlines_without_glyf(
     alloc: Global,
     parts: FontParts,
     file: FontFile<'_>,
-) -> Result<Drawn, FontFault>
+) -> Result<Outlines, FontFault>
     ensures ok { IfOk result (λ d. and_then (table_in file.entry.bytes.now file.entry.index FontTable.Cff)
-        (drawn_without_glyf parts file.entry.bytes.now file.entry.index) ≡ Ok (d.boxes.items, d.names.items)) }
+        (outlines_without_glyf parts file.entry.bytes.now file.entry.index) ≡ Ok (d.boxes.items, d.names.items)) }
     ensures refused { IfErr result (λ e. e.cause ≢ TableFault.OutOfMemory
         → and_then (table_in file.entry.bytes.now file.entry.index FontTable.Cff)
-        (drawn_without_glyf parts file.entry.bytes.now file.entry.index) ≡ Err e) }
+        (outlines_without_glyf parts file.entry.bytes.now file.entry.index) ≡ Err e) }
 {
     if let Some(table) = table_in(file.bytes, file.index, FontTable::Cff)? {
-        return drawn_by_cff(alloc, parts, FontTable::Cff, false, table);
+        return outlines_of_cff(alloc, parts, FontTable::Cff, false, table);
     }
     match table_in(file.bytes, file.index, FontTable::Cff2)? {
-        Some(table) => drawn_by_cff(alloc, parts, FontTable::Cff2, true, table),
-        None => Ok(not_drawn(alloc)),
+        Some(table) => outlines_of_cff(alloc, parts, FontTable::Cff2, true, table),
+        None => Ok(no_outlines(alloc)),
     }
 }
 
 /// The boxes and names by a font's outlines.
-pub(crate) fn drawn_in(
+pub(crate) fn outlines_in(
     alloc: Global,
     parts: FontParts,
     file: FontFile<'_>,
     headers: Headers,
     metrics: Metrics<'_>,
-) -> Result<Drawn, FontFault>
+) -> Result<Outlines, FontFault>
     requires { 4 * metrics.long ≤ length (bytes_or_none (option_copied metrics.table)) }
-    ensures ok { IfOk result (λ d. drawn_in parts file.entry.bytes.now file.entry.index headers
+    ensures ok { IfOk result (λ d. outlines_in parts file.entry.bytes.now file.entry.index headers
         (option_copied metrics.entry.table, metrics.entry.long) ≡ Ok (d.boxes.items, d.names.items)) }
-    ensures refused { IfErr result (λ e. e.cause ≢ TableFault.OutOfMemory → drawn_in parts file.entry.bytes.now
+    ensures refused { IfErr result (λ e. e.cause ≢ TableFault.OutOfMemory → outlines_in parts file.entry.bytes.now
         file.entry.index headers (option_copied metrics.entry.table, metrics.entry.long) ≡ Err e) }
 {
     match table_in(file.bytes, file.index, FontTable::Glyf)? {
-        Some(glyf) => drawn_by_glyf(alloc, parts, file, headers, metrics, glyf),
-        None => drawn_without_glyf(alloc, parts, file),
+        Some(glyf) => outlines_of_glyf(alloc, parts, file, headers, metrics, glyf),
+        None => outlines_without_glyf(alloc, parts, file),
     }
 }
 
@@ -174,7 +174,7 @@ fn rising(names: Vec<NameRow>) -> Result<SortedRows<NameRow>, FontFault>
 }
 
 /// The names of a table post.
-#[tactic(auto, unfolding(crate::specs::Drawn::names_of_post))]
+#[tactic(auto, unfolding(crate::specs::Outlines::names_of_post))]
 fn names_of_post(alloc: Global, table: &[u8], count: u16) -> Result<SortedRows<NameRow>, FontFault>
     ensures ok { IfOk result (λ v. names_of_post count table.now ≡ Ok v) }
     ensures refused { IfErr result (λ e. e.cause ≢ TableFault.OutOfMemory → names_of_post count table.now ≡ Err e) }
@@ -210,19 +210,19 @@ pub(crate) fn names_in(
     parts: FontParts,
     file: FontFile<'_>,
     count: u16,
-    drawn: Vec<NameRow>,
+    outlines: Vec<NameRow>,
 ) -> Result<SortedRows<NameRow>, FontFault>
-    ensures ok { IfOk result (λ v. names_in parts file.entry.bytes.now file.entry.index count drawn.items ≡ Ok v) }
+    ensures ok { IfOk result (λ v. names_in parts file.entry.bytes.now file.entry.index count outlines.items ≡ Ok v) }
     ensures refused { IfErr result (λ e. e.cause ≢ TableFault.OutOfMemory
-        → names_in parts file.entry.bytes.now file.entry.index count drawn.items ≡ Err e) }
+        → names_in parts file.entry.bytes.now file.entry.index count outlines.items ≡ Err e) }
 {
     if !parts.names {
-        drop(drawn);
+        drop(outlines);
         return Ok(SortedRows::new(Vec::new(alloc)));
     }
-    if drawn.is_empty() {
-        drop(drawn);
+    if outlines.is_empty() {
+        drop(outlines);
         return post_names(alloc, file, count);
     }
-    rising(drawn)
+    rising(outlines)
 }
