@@ -5,6 +5,7 @@ from typing import Callable
 
 from attacks.attack import Attack, Files, Value, font, lookup, table
 from fuzzing.tables import whole_tables
+from unicodejson.cli import MAKERS
 
 CIRCLE = "\u25cc"
 STRETCHED = frozenset({"ok", "S3 StretchRange", "S2 TooLong"})
@@ -13,7 +14,7 @@ STRETCHED = frozenset({"ok", "S3 StretchRange", "S2 TooLong"})
 @cache
 def real_tables() -> Value:
     """The tables of the Unicode Character Database."""
-    return {key: part for key, part in whole_tables().items() if key != "unicode"}
+    return {key: part for key, part in whole_tables().items() if key in MAKERS}
 
 
 def script_font(letters: str, tag: str) -> Value:

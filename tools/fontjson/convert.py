@@ -9,6 +9,7 @@ from fontjson.keep import Kept, keep_layout
 from fontjson.kern import with_kerning
 from fontjson.layout import layout_of
 from fontjson.source import Source
+from formats.named import FONT, KEY
 
 # Tables that the format has no word for: first those by which other shapers change or move glyphs.
 TABLES_THAT_CHANGE = ("kerx", "mort", "morx", "trak", "Silf")
@@ -23,7 +24,7 @@ def convert(source: Source, kept: Kept) -> dict[str, Any]:
     """The keys that stay, in the order of the format."""
     note_tables(source)
     wanted = set(kept.keys)
-    value: dict[str, Any] = {"source": origin_of(source)}
+    value: dict[str, Any] = {KEY: FONT, "source": origin_of(source)}
     for key, part in metric_keys(source, wanted).items():
         value[key] = part
     gdef = gdef_of(source) if wanted & {"gdef", "gsub", "gpos"} else None

@@ -3,9 +3,11 @@
 import json
 import math
 import unicodedata
+from itertools import chain
 from pathlib import Path
 from typing import Any, Callable, Iterator
 
+from formats.named import FONT, TABLES, format_fault
 from formats.rules import font_faults, tables_faults
 from unicodejson.lawful import law_fault
 
@@ -19,12 +21,12 @@ SHOWN = 40
 
 def font_fault(path: Path) -> str | None:
     """The first fault of a font, with its place; None where none is found."""
-    return fault_of(path, font_faults)
+    return fault_of(path, lambda font: chain(name_faults(font, FONT), font_faults(font)))
 
 
 def tables_fault(path: Path) -> str | None:
     """The first fault of tables, with its place, or the law that they break; None where none is found."""
-    found = fault_of(path, tables_faults)
+    found = fault_of(path, lambda tables: chain(name_faults(tables, TABLES), tables_faults(tables)))
     if found is not None:
         return found
     law = law_fault(json.loads(path.read_bytes()), category)
@@ -35,6 +37,13 @@ def category(character: int) -> str:
     """The general category; what this Python's Unicode has not assigned yet may be a mark."""
     found = unicodedata.category(chr(character))
     return "Mn" if found == "Cn" else found
+
+
+def name_faults(value: dict[str, Any], wanted: str) -> Iterator[str]:
+    """The fault of a value that names another format, which the program passes over."""
+    other = format_fault(value, wanted)
+    if other is not None:
+        yield other
 
 
 def fault_of(path: Path, rules: Rules) -> str | None:

@@ -6,6 +6,7 @@ from functools import cache
 from random import Random
 from typing import Any, Callable
 
+from formats.named import KEY
 from fuzzing.alphabets import Alphabet
 from sources.crates import ROOT
 from unicodejson.lists import (
@@ -47,7 +48,7 @@ def rows_by_character() -> dict[str, dict[int, list[Row]]]:
     """The rows of the whole tables by their first character, for each key."""
     found: dict[str, dict[int, list[Row]]] = {}
     for key, rows in whole_tables().items():
-        if key not in ("unicode", "syllables", "languages", "pictographic"):
+        if key not in (KEY, "unicode", "syllables", "languages", "pictographic"):
             by_first = found.setdefault(key, {})
             for row in rows:
                 by_first.setdefault(row[0], []).append(row)

@@ -16,7 +16,7 @@ from common.writing import object_text
 from fontjson.variations import Place
 
 TOOLS = Path(__file__).parent.parent
-SOURCES = ("common", "fontjson", "unicodejson", "syllables", "machines")
+SOURCES = ("common", "fontjson", "formats", "unicodejson", "syllables", "machines")
 ENDING = ".json"
 # Bytes of a name that are kept in it; a longer one is kept by its sum. A file's name has at most 255 on most systems.
 MOST_NAME = 128

@@ -14,6 +14,7 @@ from common.printing import emit, emit_bytes, naming, tell
 from fontjson.cli import instance_of, read_font
 from fontjson.keep import Kept
 from fontjson.variations import Place
+from formats.named import FONT, KEY, format_fault
 from formats.where import font_fault, tables_fault
 from shaping.cache import TOOLS, cache_folder, cached, fingerprint, font_name, part_of
 from shaping.glyphs import as_json, read_line, with_names
@@ -207,8 +208,16 @@ def font_index(given: Given) -> int:
 def font_file(folder: Path, given: Given, place: Place | None = None) -> Path:
     """The font's value as a file: the file itself where it is one."""
     if is_json(given.font):
+        check_format(given.font)
         return given.font
     return font_value(folder, given.font, font_index(given), not given.has("no-limits"), place)
+
+
+def check_format(font: Path) -> None:
+    """Refuses a value of another format, whose keys the program would pass over."""
+    other = format_fault({KEY: key_of(font, KEY, FONT)}, FONT)
+    if other is not None:
+        raise ToolFault(DATA, f"{font}: {other}")
 
 
 def font_value(folder: Path, path: Path, index: int, is_limited: bool = True, place: Place | None = None) -> Path:

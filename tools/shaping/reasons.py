@@ -5,9 +5,10 @@ import mmap
 import os
 import stat
 from pathlib import Path
-from typing import BinaryIO, Callable
+from typing import Any, BinaryIO, Callable
 
 from common.faults import DATA, FILES, TEXT, WORDS
+from formats.named import FONT, KEY, TABLES
 from shaping.program_words import FILES as ROLES
 from shaping.program_words import USAGE, files_of, word_fault
 
@@ -90,7 +91,7 @@ def swapped(files: list[str]) -> str | None:
     a line all the same."""
     tables, font, _ = files
     try:
-        if all(map(is_looked_into, (tables, font))) and (has_key(tables, UNITS) or not has_key(font, UNITS)):
+        if all(map(is_looked_into, (tables, font))) and may_be_swapped(tables, font):
             return told_swap(tables, font)
     except (OSError, RecursionError, ValueError):
         # The program says what is wrong with them.
@@ -98,29 +99,38 @@ def swapped(files: list[str]) -> str | None:
     return None
 
 
+def may_be_swapped(tables: str, font: str) -> bool:
+    """A first look at both, which doesn't read them as JSON."""
+    return has_text(tables, UNITS) or not has_text(font, UNITS) or has_text(tables, FONT) or has_text(font, TABLES)
+
+
 def told_swap(tables: str, font: str) -> str | None:
     from formats.rules import TABLE_ROWS
 
     known = {SYLLABLES, *(key for key, *_ in TABLE_ROWS)}
-    of_font, of_tables = keys_of(font), keys_of(tables)
-    if UNITS not in of_font and of_font & known:
-        what = f"FONT ({font}) has no {UNITS} and has {min(of_font & known)}, a key of TABLES"
-    elif UNITS in of_tables and not of_tables & known:
+    of_font, of_tables = object_of(font), object_of(tables)
+    if of_font.get(KEY) == TABLES:
+        what = f"FONT ({font}) has {TABLES} as its {KEY}"
+    elif of_tables.get(KEY) == FONT:
+        what = f"TABLES ({tables}) has {FONT} as its {KEY}"
+    elif UNITS not in of_font and of_font.keys() & known:
+        what = f"FONT ({font}) has no {UNITS} and has {min(of_font.keys() & known)}, a key of TABLES"
+    elif UNITS in of_tables and not of_tables.keys() & known:
         what = f"TABLES ({tables}) has {UNITS}, a key of FONT, and none of TABLES"
     else:
         return None
     return f"{what}: are the two swapped? {USAGE}"
 
 
-def keys_of(name: str) -> set[str]:
+def object_of(name: str) -> dict[str, Any]:
     value = json.loads(Path(name).read_bytes())
-    return set(value) if isinstance(value, dict) else set()
+    return value if isinstance(value, dict) else {}
 
 
-def has_key(name: str, key: str) -> bool:
-    """Whether a file has a key somewhere in it, found without reading it as JSON."""
+def has_text(name: str, text: str) -> bool:
+    """Whether a file has a text of JSON somewhere in it."""
     with open(name, "rb") as file, mmap.mmap(file.fileno(), 0, access=mmap.ACCESS_READ) as content:
-        return content.find(json.dumps(key).encode()) >= 0
+        return content.find(json.dumps(text).encode()) >= 0
 
 
 def is_looked_into(name: str) -> bool:

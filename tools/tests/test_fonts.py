@@ -33,8 +33,10 @@ class Converted(unittest.TestCase):
                 yield font, value
 
     def test_format(self) -> None:
+        """Rows follow the format, whose name is the first key."""
         for _, value in self.each():
             self.assertEqual(list(font_faults(value)), [])
+            self.assertEqual(next(iter(value.items())), ("format", "kuspveli-font"))
 
     def test_metrics(self) -> None:
         """Characters, advances, classes and names, in both directions."""

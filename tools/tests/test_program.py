@@ -166,6 +166,22 @@ class Commands(unittest.TestCase):
         ):
             self.assertEqual(self.told(0, *words, "text"), "", words)
 
+    def test_named(self) -> None:
+        """A file whose key `format` is that of the other one is told, whatever else it has."""
+        fonts = '{"format":"kuspveli-font","upem":1,"classes":[]}'
+        tables = '{"format":"kuspveli-tables","upem":1,"classes":[]}'
+        write_files(self.folder, {"a_font": fonts, "some_tables": tables, "plain": '{"upem":1,"classes":[]}'})
+        line = "FONT (some_tables) has kuspveli-tables as its format: are the two swapped?"
+        for files in (("a_font", "some_tables"), ("plain", "some_tables")):
+            self.assertIn(f"hb_shape: {line}", self.told(0, *files, "text"))
+        line = "TABLES (a_font) has kuspveli-font as its format: are the two swapped?"
+        for files in (("a_font", "a_font"), ("a_font", "plain")):
+            self.assertIn(f"hb_shape: {line}", self.told(0, *files, "text"))
+        for files in (("some_tables", "a_font"), ("some_tables", "plain"), ("plain", "a_font"), ("plain", "plain")):
+            self.assertEqual(self.told(0, *files, "text"), "", files)
+        # Where the program refuses a file, the name of its format comes before its rows.
+        self.assertIn("FONT: some_tables: format: 'kuspveli-tables', and 'kuspveli-font' is wanted", self.told(3, "plain", "some_tables", "text"))
+
     def test_own_words(self) -> None:
         """Help and version are answered without a program."""
         with mock.patch.object(command, "ready_program", None):

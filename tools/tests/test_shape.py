@@ -141,7 +141,7 @@ class Commands(unittest.TestCase):
         value = json.loads(self.kept().read_text())
         self.assertEqual(list(font_faults(value)), [])
         keys = [key for key in cli.FONT_READ.keys if key in value]
-        self.assertEqual(list(value), ["cache", "source", *keys, "end"])
+        self.assertEqual(list(value), ["cache", "format", "source", *keys, "end"])
         self.assertLessEqual({"cmap", "h", "gdef", "gsub", "gpos"}, set(value))
         self.assertEqual(os.listdir(self.font.parent), ["font.ttf"])
 
@@ -301,6 +301,8 @@ class Commands(unittest.TestCase):
             self.assertEqual(cli.main([str(font), "3"]), 3)
         self.assertIn(f"shape: {font}: U1 OutOfOrder: h[1]: 1 is not above 1: [1, 600]\n", told.getvalue())
         self.assertRaisesRegex(ToolFault, "no outlines", cli.main, [str(font), "a", "--svg=x"])
+        font.write_text('{"format":"kuspveli-tables","upem":1000}')
+        self.assertRaisesRegex(ToolFault, "format: 'kuspveli-tables', and", cli.main, [str(font), "a"])
 
     def test_input(self) -> None:
         """Without a text the lines of standard input are shaped; --show-text prints each before its glyphs."""
@@ -589,6 +591,8 @@ class Parts(unittest.TestCase):
             b'{"gdef":[]}': "gdef: another shape than the format's",
             b"\xff": "no UTF-8 at byte 0",
             b"[]": "no object at the top",
+            b'{"format":"kuspveli-tables","h":[1]}': "format: 'kuspveli-tables', and 'kuspveli-font' is wanted",
+            b'{"format":"kuspveli-font","h":[1]}': "h[0]: shape or range of 1",
             b'{"h":[[1,2]]}': None,
         }
         with tempfile.NamedTemporaryFile() as file:

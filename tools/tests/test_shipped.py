@@ -30,9 +30,9 @@ def debian_version() -> str:
 
 class Shipped(unittest.TestCase):
     def test_format(self) -> None:
-        """Every key is there, with rows of the format, and the version in front of them and in the documents."""
+        """Every key is there, with rows of the format, and before them its name and the version, which documents name."""
         value = json.loads(TABLES.read_text())
-        self.assertEqual(list(value), ["unicode", *MAKERS])
+        self.assertEqual(list(value), ["format", "unicode", *MAKERS])
         self.assertEqual(list(tables_faults(value)), [])
         version = value["unicode"]["version"]
         for document in ("README.md", "data/LICENSE.txt", "docs/TOOLS.md"):

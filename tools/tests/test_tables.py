@@ -141,6 +141,9 @@ class TheTables(unittest.TestCase):
                 self.assertEqual(sorted(tables.expansion(number)), sorted(decomposed), hex(number))
 
     def test_version(self) -> None:
+        """The name of the format, then what the tables were made of, stand before the rows."""
+        self.assertEqual(list(self.tables)[:3], ["format", "unicode", "splits"])
+        self.assertEqual(self.tables["format"], "kuspveli-tables")
         about = self.tables["unicode"]
         self.assertEqual(about["crate"], CRATE_VERSION)
         self.assertIn(about["version"], about["lost"][0])

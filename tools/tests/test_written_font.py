@@ -186,7 +186,7 @@ class WrittenFont(unittest.TestCase):
     def test_part(self) -> None:
         """A part of the keys, features and lookups, with indices anew."""
         font = json_of("font_to_json", "--only", "gsub,upem", "--features", "calt,liga", self.path)
-        self.assertEqual(list(font), ["source", "upem", "gsub"])
+        self.assertEqual(list(font), ["format", "source", "upem", "gsub"])
         self.assertEqual(list(font_faults(font)), [])
         kept = [lookup["type"] for lookup in font["gsub"]["lookups"]]
         self.assertEqual(sorted(kept), ["alternate", "chain", "ligature", "reverse", "single"])

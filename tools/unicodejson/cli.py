@@ -9,6 +9,7 @@ from common.notes import Progress
 from common.parsing import Words
 from common.printing import emit, tell
 from common.writing import object_text
+from formats.named import KEY, TABLES
 from unicodejson import forms, indic, lists, normal, universal
 from unicodejson.lawful import law_fault
 from unicodejson.ucd import Ucd, version_of
@@ -71,7 +72,7 @@ def kept_keys(text: str | None) -> list[str]:
 def make_tables(folder: Path, keys: list[str], progress: Progress) -> dict[str, Any]:
     """The keys with what they were made of in front, which readers of the format pass over."""
     ucd = Ucd(folder, version_of(CRATE_VERSION))
-    value: dict[str, Any] = {"unicode": {}}
+    value: dict[str, Any] = {KEY: TABLES, "unicode": {}}
     for key in keys:
         progress.step(key)
         try:
