@@ -1,0 +1,16 @@
+pub mod Within
+pub mod Totals
+pub mod Coverages
+pub mod Turns
+pub mod Contexts
+pub mod Substitutions
+pub mod Positions
+pub mod Lists
+pub mod Lookups
+pub mod Characters
+pub mod Glyphs
+pub mod Kern
+pub mod KernScripts
+pub mod KernTables
+pub mod Faces
+pub mod Bounds
