@@ -1,0 +1,4 @@
+mod Appending
+mod Printable
+mod Steps
+mod Texts

@@ -1,0 +1,11 @@
+pub mod Tags
+pub mod Rows
+pub mod Positions
+pub mod Pairs
+pub mod Marks
+pub mod Contexts
+pub mod Substitutions
+pub mod Scripts
+pub mod Lookups
+pub mod FontRows
+pub mod Face
