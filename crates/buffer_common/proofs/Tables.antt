@@ -4,11 +4,7 @@ use Rattle.std.specs.Prelude.{All}
 use Rattle.buffer_common.specs.Constants.{combining_classes, scratch_flags, CombiningClassesAreListed, ScratchFlagsAreListed}
 use Rattle.buffer_common.specs.Tag.{tag_of}
 use Rattle.buffer_common.specs.Script.{named_scripts, script_of_tag, ScriptsAreNamed, TagsLeadBack}
-
-pub all_equal : {X Y : Type 0} (f g : X → Y) (xs : List X) → map f xs ≡ map g xs → All (λ x. f x ≡ g x) xs
-all_equal f g [] e k d h = absurd (omega arith)
-all_equal f g (x ∷ xs) e zero d h = cc
-all_equal f g (x ∷ xs) e (suc k) d h = let rest : map f xs ≡ map g xs = cc in all_equal f g xs rest k d (omega arith)
+use Rattle.buffer_facts.proofs.Lists.{all_equal}
 
 pub scripts_are_named : ScriptsAreNamed
 scripts_are_named = all_equal (λ named. named.0.0) (λ named. tag_of named.1) named_scripts refl

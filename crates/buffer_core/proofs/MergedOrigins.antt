@@ -19,32 +19,23 @@ use Rattle.buffer_core.proofs.Kept.{map-reverse}
 use Rattle.buffer_core.proofs.Merged.{all_merged}
 use Rattle.buffer_core.proofs.Replaced.{all_copied}
 use Rattle.buffer_core.proofs.Across.{all_output_merged}
-
-itself : (n : ℕ) → (n == n) ≡ true
-itself n = grind (arith, common_steps)
-
-alone : (n c : ℕ) (t : Bool) → (n == c) ≡ t → (if t || false then n else c) ≡ c
-alone n c true e = grind (arith, common_steps, e)
-alone n c false e = refl
+use Rattle.buffer_facts.proofs.Numbers.{test_of_itself as itself, chosen_same as alone}
+use Rattle.buffer_facts.proofs.Lists.{map_same}
 
 pub cast_self : (c : ℕ) (o : Origin) → c ≡ o.cluster → cast c 0 o ≡ o
 cast_self c o e = rw (e, itself o.cluster) refl
 
-map_same : {X : Type 0} (f : X → X) (xs : List X) → ((x : X) → f x ≡ x) → map f xs ≡ xs
-map_same f [] same = refl
-map_same f (x ∷ xs) same = rw (same x, map_same f xs same) refl
-
-no_range : (os : List Origin) → map (λ (o : Origin). cast (merged_number [] o.cluster) 0 o) os ≡ os
+pub no_range : (os : List Origin) → map (λ (o : Origin). cast (merged_number [] o.cluster) 0 o) os ≡ os
 no_range os = map_same (λ (o : Origin). cast (merged_number [] o.cluster) 0 o) os (λ o. cast_self o.cluster o refl)
 
-one_range : (n : ℕ) (os : List Origin) → map (λ (o : Origin). cast (merged_number (n ∷ []) o.cluster) 0 o) os ≡ os
+pub one_range : (n : ℕ) (os : List Origin) → map (λ (o : Origin). cast (merged_number (n ∷ []) o.cluster) 0 o) os ≡ os
 one_range n os = map_same (λ (o : Origin). cast (merged_number (n ∷ []) o.cluster) 0 o) os (λ o. cast_self (merged_number (n ∷ []) o.cluster) o (alone n o.cluster (n == o.cluster) refl))
 
-short_range : (ns : List ℕ) (os : List Origin) → map (λ (o : Origin). cast (merged_number (take 1 ns) o.cluster) 0 o) os ≡ os
+pub short_range : (ns : List ℕ) (os : List Origin) → map (λ (o : Origin). cast (merged_number (take 1 ns) o.cluster) 0 o) os ≡ os
 short_range [] os = no_range os
 short_range (n ∷ ns) os = one_range n os
 
-one_marked : (os : List Origin) → map (added_outside 3 (least_number (take 1 (numbers os)))) (take 1 os) ≡ take 1 os
+pub one_marked : (os : List Origin) → map (added_outside 3 (least_number (take 1 (numbers os)))) (take 1 os) ≡ take 1 os
 one_marked [] = refl
 one_marked (o ∷ os) = rw (itself o.cluster) refl
 

@@ -51,7 +51,3 @@ no_glyph : (gs hs : List hb_glyph_info_t) → length gs ≡ 0 → length hs ≡ 
 no_glyph [] [] e d = refl
 no_glyph [] (h ∷ hs) e d = cc
 no_glyph (g ∷ gs) hs e d = cc
-
-or_cases : (s t : Bool) → (s || t) ≡ true → (s ≡ true) ⊎ (t ≡ true)
-or_cases true t e = inl refl
-or_cases false t e = inr e

@@ -4,6 +4,7 @@ use Rattle.std.proofs.lemmas.Bool.Decides.{nat_tests}
 use Rattle.std.proofs.lemmas.List.{length-append, length-drop}
 use Rattle.buffer_glyphs.specs.declared.info.hb_glyph_info_t.{hb_glyph_info_t}
 use Rattle.buffer_glyphs.proofs.Lists.{take_one}
+use Rattle.buffer_facts.proofs.Numbers.{at_most_by_test as within}
 
 -- an element is there
 pub some_ahead : (xs : List hb_glyph_info_t) (n : ℕ) → 0 < length (drop n xs) → n < length xs
@@ -22,9 +23,6 @@ put_within out gs new n m e long fits =
     let room : length out + n ≤ m = grind (arith, nat_tests, fits) in
     let sides = length-append out gs in
     rw e (omega (arith, sides, long, room))
-
-pub within : (n m : ℕ) → nat_le n m ≡ true → n ≤ m
-within n m e = grind (arith, nat_tests, e)
 
 -- both sides as one list are within the limit
 pub joined_within : (s : Bool) (out ahead : List hb_glyph_info_t) (m : ℕ) → (s && nat_le (length (out ++ ahead) + 0) m) ≡ true → length (out ++ ahead) ≤ m

@@ -14,6 +14,7 @@ use Rattle.buffer_glyphs.specs.Lemmas.Ends.{from_first, from_has}
 use Rattle.buffer_glyphs.specs.Lemmas.Merges.{chain_left, chain_right, chain_across}
 use Rattle.buffer_glyphs.specs.Lemmas.Numbers.{Has, has_here, has_more, has_right, has_cases}
 use Rattle.buffer_glyphs.specs.Lemmas.Glyphs.{same_cluster}
+use Rattle.buffer_facts.proofs.Numbers.{same_by_test as equal_test, apart_by_test as differ_test, test_of_apart as apart_test}
 
 -- a relation by which no two numbers stand on both sides of each other
 abbrev pub IsAnti : (ℕ → ℕ → Type 0) → Type 0
@@ -25,15 +26,6 @@ stands_anti true m n h k = omega arith
 
 in_its_cluster : (c : ℕ) (g : hb_glyph_info_t) → (g.cluster == c) ≡ true → in_cluster c g ≡ g
 in_its_cluster c g e = rw e refl
-
-equal_test : (m n : ℕ) → (m == n) ≡ true → m ≡ n
-equal_test m n e = grind (arith, common_steps, e)
-
-differ_test : (m n : ℕ) → (m == n) ≡ false → m ≢ n
-differ_test m n e same = let yes : (m == n) ≡ true = grind (arith, common_steps, same) in let bad : true ≡ false = sym yes ∙ e in cc
-
-apart_test : (m n : ℕ) → m ≢ n → (m == n) ≡ false
-apart_test m n ne = grind (arith, common_steps, ne)
 
 none_renamed : (c low : ℕ) (gs : List hb_glyph_info_t) → ((n : ℕ) → Has (clusters gs) n → n ≢ c) → glyphs_renumbered c low gs ≡ gs
 none_renamed c low [] none = refl

@@ -16,6 +16,7 @@ use Rattle.buffer_glyphs.specs.Lemmas.Merges.{least_number_is}
 use Rattle.buffer_glyphs.specs.Lemmas.Numbers.{Has, has_here, has_more, has_cases}
 use Rattle.buffer_glyphs.proofs.Ends.{stands_anti, by_order}
 use Rattle.buffer_glyphs.proofs.Joined.{by_range, first_cluster_is, last_cluster_is}
+use Rattle.buffer_facts.proofs.Numbers.{same_by_test as equal_test}
 
 none_any : (low : ℕ) (ns : List ℕ) → ((n : ℕ) → Has ns n → n ≡ low) → list_any (λ n. not (n == low)) ns ≡ false
 none_any low [] all = refl
@@ -36,9 +37,6 @@ alike_even x xs o e =
     let low = least_number (x ∷ xs) in
     let least : low ≡ x = all_alike x xs o e low (least_number_is x xs).among in
     none_any low (x ∷ xs) (λ n h. all_alike x xs o e n h ∙ sym least)
-
-equal_test : (m n : ℕ) → (m == n) ≡ true → m ≡ n
-equal_test m n e = grind (arith, common_steps, e)
 
 pub ends_even : (gs : List hb_glyph_info_t) (d : hb_glyph_info_t) → 0 < length gs → IsOrdered (clusters gs) → ((get_or gs 0 d).cluster == (get_or gs (length gs - 1) d).cluster) ≡ true → has_several_numbers (clusters gs) ≡ false
 ends_even gs d some o same_ends =

@@ -18,6 +18,7 @@ use Rattle.buffer_glyphs.specs.Lemmas.Numbers.{Has, MayHave, has_here, has_more,
 use Rattle.buffer_glyphs.specs.Lemmas.Unions.{Unites, joined_unites}
 use Rattle.buffer_glyphs.specs.Lemmas.Parts.{order_drawn, keeps_order, event_keeps_order, event_keeps_numbers, keeps_numbers}
 use Rattle.buffer_glyphs.specs.Lemmas.Ends.{joined_alike}
+use Rattle.buffer_facts.proofs.Lists.{others_map}
 
 -- a union leaves the least number as it is
 united_least : (k m n : ℕ) → k ≤ m → k ≤ n → united_number (min m n) (max m n) k ≡ k
@@ -29,21 +30,21 @@ least_unites k ns l = record {
   union = λ m n hm hn. let P : ℕ → Type 0 = λ j. Has (united_numbers m n ns) j in subst P (united_least k m n (l.below m hm) (l.below n hn)) (map_has (united_number (min m n) (max m n)) k ns l.among);
 }
 
-has_at : (n at : ℕ) (ns : List ℕ) → Has ns n → Has (take at ns) n ⊎ Has (drop at ns) n
+pub has_at : (n at : ℕ) (ns : List ℕ) → Has ns n → Has (take at ns) n ⊎ Has (drop at ns) n
 has_at n at ns h = has_either n (take at ns) (drop at ns) (let P : List ℕ → Type 0 = λ xs. Has xs n in subst P (sym (take-append-drop at ns)) h)
 
-copies_have : (given n : ℕ) → 0 < given → Has (copies given (Some n)) n
+pub copies_have : (given n : ℕ) → 0 < given → Has (copies given (Some n)) n
 copies_have zero n lt = absurd (omega arith)
 copies_have (suc given) n lt = has_here n (replicate given n)
 
 -- copies of the first, instead of some that are all as the first
-has_copied : (given gone n : ℕ) (ns : List ℕ) → 0 < given → (Has (take gone ns) n → first_of ns ≡ Some n) → Has ns n → Has (copies given (first_of ns) ++ drop gone ns) n
+pub has_copied : (given gone n : ℕ) (ns : List ℕ) → 0 < given → (Has (take gone ns) n → first_of ns ≡ Some n) → Has ns n → Has (copies given (first_of ns) ++ drop gone ns) n
 has_copied given gone n ns lt alike h = elim (has_at n gone ns h) [
   | inl there ↦ has_left n (copies given (first_of ns)) (drop gone ns) (let P : Option ℕ → Type 0 = λ o. Has (copies given o) n in subst P (sym (alike there)) (copies_have given n lt))
   | inr beyond ↦ has_right n (copies given (first_of ns)) (drop gone ns) beyond
 ]
 
-replaced_has_at : (at gone given n : ℕ) (ns rest : List ℕ) → drop at ns ≡ rest → 0 < given → (Has (take gone rest) n → first_of rest ≡ Some n) → Has ns n
+pub replaced_has_at : (at gone given n : ℕ) (ns rest : List ℕ) → drop at ns ≡ rest → 0 < given → (Has (take gone rest) n → first_of rest ≡ Some n) → Has ns n
     → Has (take at ns ++ copies given (or (first_of rest) (last_of (take at ns))) ++ drop gone rest) n
 replaced_has_at at gone given n ns [] e lt alike h = elim (has_at n at ns h) [
   | inl front ↦ has_left n (take at ns ++ copies given (last_of (take at ns))) (drop gone []) (has_left n (take at ns) (copies given (last_of (take at ns))) front)
@@ -55,10 +56,10 @@ replaced_has_at at gone given n ns (m ∷ rest) e lt alike h = rw append_assoc (
 ])
 
 -- items that are all of one part are replaced by others of it: its number stays
-replaced_has : (at gone given n : ℕ) (ns : List ℕ) → 0 < given → (Has (take gone (drop at ns)) n → first_of (drop at ns) ≡ Some n) → Has ns n → Has (numbers_replaced at gone given ns) n
+pub replaced_has : (at gone given n : ℕ) (ns : List ℕ) → 0 < given → (Has (take gone (drop at ns)) n → first_of (drop at ns) ≡ Some n) → Has ns n → Has (numbers_replaced at gone given ns) n
 replaced_has at gone given n ns lt alike h = rw (← drop-drop gone at ns) (replaced_has_at at gone given n ns (drop at ns) refl lt alike h)
 
-first_taken : (f : ℕ → ℕ) (gone x : ℕ) (ds xs : List ℕ) → take gone ds ≡ x ∷ xs → first_of (map f ds) ≡ Some (f x)
+pub first_taken : (f : ℕ → ℕ) (gone x : ℕ) (ds xs : List ℕ) → take gone ds ≡ x ∷ xs → first_of (map f ds) ≡ Some (f x)
 first_taken f zero x ds xs e = cc
 first_taken f (suc gone) x [] xs e = cc
 first_taken f (suc gone) x (d ∷ ds) xs e = ap (λ ys. first_of (map f ys)) e
@@ -73,7 +74,7 @@ range_alike falls at gone n ns (x ∷ xs) e o h =
     let same : f x ≡ n = joined_alike falls x x xs o (has_here x xs) ∙ sym (joined_alike falls x from.0 xs o from.1) ∙ from.2 in
     ap first_of (drop-map f at ns) ∙ first_taken f gone x (drop at ns) xs e ∙ ap Some same
 
-range_order : (falls : Bool) (at gone : ℕ) (ns : List ℕ) → IsInOrder falls ns → IsInOrder falls (take gone (drop at ns))
+pub range_order : (falls : Bool) (at gone : ℕ) (ns : List ℕ) → IsInOrder falls ns → IsInOrder falls (take gone (drop at ns))
 range_order falls at gone ns h = order_drawn falls (drawn_take gone (drop at ns)) (order_drawn falls (drawn_drop at ns) h)
 
 replace_has : (falls : Bool) (at taken given k : ℕ) (ns : List ℕ) → 0 < given → IsInOrder falls ns → IsLeast k ns → Has (after_part_event ns (ReplaceParts at taken given)) k
@@ -86,7 +87,7 @@ replace_has falls at taken given k ns lt o l =
     (range_alike falls at taken k ns s cut (subst (IsInOrder falls) cut (range_order falls at taken ns o)))
     (joined_unites (λ xs. Has xs k) at (at + taken) ns (least_unites k ns l))
 
-doubled_has : (at n : ℕ) (ns : List ℕ) → Has ns n → Has (take at ns ++ copies 2 (first_of (drop at ns)) ++ drop (at + 1) ns) n
+pub doubled_has : (at n : ℕ) (ns : List ℕ) → Has ns n → Has (take at ns ++ copies 2 (first_of (drop at ns)) ++ drop (at + 1) ns) n
 doubled_has at n ns h = rw (append_assoc, ← drop-drop 1 at ns) (elim (has_at n at ns h) [
   | inl front ↦ has_left n (take at ns) (copies 2 (first_of (drop at ns)) ++ drop 1 (drop at ns)) front
   | inr beyond ↦ has_right n (take at ns) (copies 2 (first_of (drop at ns)) ++ drop 1 (drop at ns)) (has_copied 2 1 n (drop at ns) (omega arith) (one_alike n (drop at ns)) beyond)
@@ -103,13 +104,13 @@ record IsLeft (ns others left : List ℕ) (n : ℕ) : Type 0 where
   beside : (others ≡ []) ⊎ ((p : ℕ) × Has others p × (f p ≡ f n))
   least : (k : ℕ) → IsLeast k ns → f k ≡ k
 
-united_ends : (m n : ℕ) → united_number (min m n) (max m n) m ≡ united_number (min m n) (max m n) n
+pub united_ends : (m n : ℕ) → united_number (min m n) (max m n) m ≡ united_number (min m n) (max m n) n
 united_ends m n = grind (arith, nat_tests, common_steps)
 
 same_left : (ns others : List ℕ) (n : ℕ) → Has others n → IsLeft ns others ns n
 same_left ns others n h = record { f = λ x. x; is = sym (map-id ns); beside = inr (n, h, refl); least = λ k l. refl }
 
-is_number_has : (o : Option ℕ) (n : ℕ) (others : List ℕ) → is_number o n ≡ true → MayHave others o → Has others n
+pub is_number_has : (o : Option ℕ) (n : ℕ) (others : List ℕ) → is_number o n ≡ true → MayHave others o → Has others n
 is_number_has None n others e h = cc
 is_number_has (Some m) n others e h = let same : m ≡ n = grind (arith, common_steps, e) in subst (Has others) same h
 
@@ -138,15 +139,15 @@ if_last_left before after n ns others b a hb ha h none = go (is_number before n)
     go false true e d = same_left ns others n (is_number_has after n others d a)
     go false false e d = with_left before after n ns others b a hb ha h none
 
-may_left : (o : Option ℕ) (xs ys : List ℕ) → MayHave xs o → MayHave (xs ++ ys) o
+pub may_left : (o : Option ℕ) (xs ys : List ℕ) → MayHave xs o → MayHave (xs ++ ys) o
 may_left None xs ys h = tt
 may_left (Some n) xs ys h = has_left n xs ys h
 
-may_right : (o : Option ℕ) (xs ys : List ℕ) → MayHave ys o → MayHave (xs ++ ys) o
+pub may_right : (o : Option ℕ) (xs ys : List ℕ) → MayHave ys o → MayHave (xs ++ ys) o
 may_right None xs ys h = tt
 may_right (Some n) xs ys h = has_right n xs ys h
 
-none_beside : (xs ys : List ℕ) → last_of xs ≡ None → first_of ys ≡ None → xs ++ ys ≡ []
+pub none_beside : (xs ys : List ℕ) → last_of xs ≡ None → first_of ys ≡ None → xs ++ ys ≡ []
 none_beside xs ys e d = rw (no_last xs e, no_first ys d) refl
 
 left_at : (at n : ℕ) (ns rest : List ℕ) → drop at ns ≡ n ∷ rest → IsLeft ns (numbers_without at ns) (before_deletion at ns) n
@@ -187,7 +188,7 @@ deleted_has at k ns (n ∷ rest) e l some =
       ]
     ]
 
-any_of : (q : ℕ → Bool) (ns : List ℕ) → list_any q ns ≡ true → (n : ℕ) × Has ns n × (q n ≡ true)
+pub any_of : (q : ℕ → Bool) (ns : List ℕ) → list_any q ns ≡ true → (n : ℕ) × Has ns n × (q n ≡ true)
 any_of q [] h = cc
 any_of q (n ∷ ns) h = by_first (q n) refl h (any_of q ns)
   where
@@ -195,16 +196,12 @@ any_of q (n ∷ ns) h = by_first (q n) refl h (any_of q ns)
     by_first true e k later = (n, has_here n ns, e)
     by_first false e k later = let found = later k in (found.0, has_more n found.0 ns found.1, found.2)
 
--- those before and after a range of a changed list
-others_map : (f : ℕ → ℕ) (at taken : ℕ) (ns : List ℕ) → take at (map f ns) ++ drop (at + taken) (map f ns) ≡ map f (take at ns ++ drop (at + taken) ns)
-others_map f at taken ns = ap (λ xs. xs ++ drop (at + taken) (map f ns)) (take-map f at ns) ∙ ap (λ xs. map f (take at ns) ++ xs) (drop-map f (at + taken) ns) ∙ sym (map-append f (take at ns) (drop (at + taken) ns))
-
-no_copies : (o : Option ℕ) → copies 0 o ≡ []
+pub no_copies : (o : Option ℕ) → copies 0 o ≡ []
 no_copies None = refl
 no_copies (Some n) = refl
 
 -- a list whose range went
-removal_is : (at taken : ℕ) (ns : List ℕ) → numbers_replaced at taken 0 ns ≡ take at ns ++ drop (at + taken) ns
+pub removal_is : (at taken : ℕ) (ns : List ℕ) → numbers_replaced at taken 0 ns ≡ take at ns ++ drop (at + taken) ns
 removal_is at taken ns = ap (λ xs. take at ns ++ xs ++ drop (at + taken) ns) (no_copies (or (first_of (drop at ns)) (last_of (take at ns)))) ∙ ap (λ xs. xs ++ drop (at + taken) ns) (append-nil (take at ns))
 
 -- what a joined range shares with a part that stays it shares after the join
@@ -248,7 +245,7 @@ event_has_least (DeletePart at) falls k ns g o l some = deleted_has at k ns (dro
 event_has_least (CirclePart beside) falls k ns g o l some = doubled_has beside k ns l.among
 event_has_least ReverseParts falls k ns g o l some = has_reverse k ns ∙ l.among
 
-no_numbers : (ns : List ℕ) → BringsNone [] ns → ns ≡ []
+pub no_numbers : (ns : List ℕ) → BringsNone [] ns → ns ≡ []
 no_numbers [] h = refl
 no_numbers (n ∷ ns) h = let none = h n (has_here n ns) in cc
 
@@ -269,7 +266,7 @@ pub origins_keep_order : OriginsKeepOrder
 origins_keep_order asks level es falls os mono plain o =
     subst (IsInOrder (falls_after falls (parts_of level es))) (sym (origins_are_parts asks level es os mono plain (in_order falls (numbers os) o))) (keeps_order (parts_of level es) falls (numbers os) o)
 
-no_origins : (os : List Origin) → numbers os ≡ [] → os ≡ []
+pub no_origins : (os : List Origin) → numbers os ≡ [] → os ≡ []
 no_origins [] e = refl
 no_origins (o ∷ os) e = cc
 

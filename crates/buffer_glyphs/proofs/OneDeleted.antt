@@ -15,6 +15,7 @@ use Rattle.buffer_glyphs.specs.Lemmas.Deletions.{deletion_is_event, last_is, no_
 use Rattle.buffer_glyphs.specs.Lemmas.Parts.{event_keeps_order}
 use Rattle.buffer_glyphs.proofs.Deleted.{clusters_deleted}
 use Rattle.buffer_glyphs.specs.Deleting.{DeletionSides, end_recast, glyphs_deleted, deletion_marks, Deletes}
+use Rattle.buffer_facts.proofs.Truth.{or_true}
 
 pub has_last : (ns : List ℕ) → 0 < length ns → (p : ℕ) × (last_of ns ≡ Some p)
 has_last [] lt = absurd (omega arith)
@@ -40,10 +41,6 @@ deletes_as level front ahead g rest new_front new_back m a is marks = record {
         let same : g ≡ h = cc in
         let tail : rest ≡ back = cc in
         subst (λ (k : Glyph). m ≡ deletion_marks level (clusters front) k.cluster (clusters back)) same (subst (λ (ks : List Glyph). m ≡ deletion_marks level (clusters front) g.cluster (clusters ks)) tail marks)
-
-or_true : (s : Bool) → (s || true) ≡ true
-or_true true = refl
-or_true false = refl
 
 -- the last before it is of no greater cluster
 pub kept_least : (level : Level) (front ahead : List Glyph) (g : Glyph) (rest : List Glyph) (p : ℕ) → ahead ≡ g ∷ rest → last_of (clusters front) ≡ Some p → p ≤ g.cluster → Deletes level front ahead front rest false

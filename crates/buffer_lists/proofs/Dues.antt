@@ -18,15 +18,7 @@ use Rattle.buffer_glyphs.proofs.Deleted.{recast_cluster, flags_put}
 use Rattle.buffer_lists.specs.DeletionWalk.{IsDue, settled_glyphs}
 use Rattle.buffer_glyphs.proofs.OneDeleted.{has_last}
 use Rattle.buffer_lists.proofs.Walking.{last_recast}
-
-equal_test : (m n : ℕ) → m ≡ n → (m == n) ≡ true
-equal_test m n e = grind (arith, common_steps, e)
-
-apart_test : (m n : ℕ) → m ≢ n → (m == n) ≡ false
-apart_test m n ne = grind (arith, common_steps, ne)
-
-test_equal : (m n : ℕ) → (m == n) ≡ true → m ≡ n
-test_equal m n e = grind (arith, common_steps, e)
+use Rattle.buffer_facts.proofs.Numbers.{same_by_test as test_equal, test_of_apart as apart_test, test_of_same as equal_test}
 
 -- a glyph that went to one cluster and then to another
 recast_twice : (c d k m : ℕ) (h : Glyph) → h.cluster ≢ c → h.cluster ≢ d → c ≢ d → recast d m (recast c k h) ≡ recast d m h

@@ -25,6 +25,7 @@ use Rattle.buffer_glyphs.proofs.OneDeleted.{has_last}
 use Rattle.buffer_lists.proofs.Walking.{settled_back, settled_front, settled_length}
 use Rattle.buffer_rows.proofs.Paged.{above_differs as apart_test}
 use Rattle.buffer_glyphs.proofs.DeletedOrigins.{flags_taken}
+use Rattle.buffer_facts.proofs.Numbers.{test_of_same as equal_test}
 
 -- ---- the last of a list
 
@@ -33,9 +34,6 @@ behind a x [] h = cc
 behind a x (b ∷ bs) h = last_beyond a b bs ∙ h
 
 -- ---- a run that took the flags of a glyph
-
-equal_test : (m n : ℕ) → m ≡ n → (m == n) ≡ true
-equal_test m n e = grind (arith, common_steps, e)
 
 one_recast : (d h : Glyph) → d.cluster < h.cluster → bit_and (recast d.cluster d.mask h).mask 7 ≡ bit_and d.mask 7
 one_recast d h lt = let off = apart_test h.cluster d.cluster lt in rw off (flags_taken h.mask d.mask)

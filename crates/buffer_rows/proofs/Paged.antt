@@ -10,6 +10,7 @@ use Rattle.std.proofs.lemmas.Option.{slice_get_within, slice_get-get_or}
 use Rattle.std.specs.List.Sorted.{IsPartitionedBy, IsPartitionPoint}
 use Rattle.buffer_rows.specs.Keys.{is_above, is_rising, numbers_rise, row_of}
 use Rattle.buffer_rows.specs.Pages.{ArePages, Extends, IsBlock, IsPage, IsPaged, IsStart, record_in}
+use Rattle.buffer_facts.proofs.Numbers.{less_by_order as less_of}
 
 lower : (a b first : ℕ) → a ≤ b → nat_lt b first ≡ true → nat_lt a first ≡ true
 lower a b first le h = grind (arith, nat_tests)
@@ -56,9 +57,6 @@ module _ {R : Type 0} (number : R → ℕ) where
   rises_alone : (before : Option ℕ) (rows : List R) → is_rising nat_cmp number before rows ≡ true → numbers_rise number rows ≡ true
   rises_alone before [] h = refl
   rises_alone before (r ∷ rows) h = (and_parts (is_above nat_cmp before (number r)) (is_rising nat_cmp number (Some (number r)) rows) h).1
-
-less_of : (a b : ℕ) → is_lt (nat_cmp a b) ≡ true → a < b
-less_of a b h = grind (arith, nat_tests)
 
 below_each : {R : Type 0} (number : R → ℕ) (b : ℕ) (rows : List R) (i : ℕ) (d : R) → is_rising nat_cmp number (Some b) rows ≡ true → i < length rows → b < number (get_or rows i d)
 below_each number b [] i d h lt = absurd (omega (arith, lt))

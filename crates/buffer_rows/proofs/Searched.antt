@@ -10,10 +10,7 @@ use Rattle.std.proofs.lemmas.Bool.{cases_lt}
 use Rattle.std.proofs.lemmas.Bool.Decides.{nat_tests}
 use Rattle.std.proofs.lemmas.List.Sorted.{searchable_from_sorted}
 use Rattle.buffer_rows.specs.Keys.{is_rising, row_with, row_of}
-
-both_parts : (a b : Bool) → (a && b) ≡ true → (a ≡ true) × (b ≡ true)
-both_parts true b h = (refl, h)
-both_parts false b h = absurd (false≢true h)
+use Rattle.buffer_facts.proofs.Truth.{both_true as both_parts}
 
 is_less : (o : Ordering) → is_lt o ≡ true → o ≡ Less
 is_less Less h = refl

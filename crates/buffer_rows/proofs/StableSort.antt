@@ -50,7 +50,7 @@ front_of key (suc m) x xs lt h =
           rw (off, front_of key m x xs (omega (arith, lt, ne)) h) refl
     ]
 
-empty : {X : Type 0} (key : X → ℕ) (n : ℕ) → by_key key n [] ≡ []
+pub empty : {X : Type 0} (key : X → ℕ) (n : ℕ) → by_key key n [] ≡ []
 empty key zero = refl
 empty key (suc n) = rw (empty key n) refl
 

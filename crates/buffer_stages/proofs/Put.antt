@@ -11,8 +11,8 @@ use Rattle.buffer_glyphs.specs.Events.{Replace}
 use Rattle.buffer_core.specs.Sides.{Sides, origins_by, origins_of}
 use Rattle.buffer_core.specs.Merging.{with_output_info, with_glyph_skipped}
 use Rattle.buffer_core.proofs.HandedOn.{put_origins, skip_passes, skipped_ahead, skipped_behind}
-use Rattle.buffer_stages.specs.Lemmas.Alone.{merged_alone}
 use Rattle.buffer_stages.specs.Walks.{HasWalked}
+use Rattle.buffer_lists.proofs.Lemmas.SortedEvents.{lone_merged as merged_alone}
 
 origins_same : (o : Origin) (front back : List Origin) (n : ℕ) → elements_replaced (length front) 1 n (front ++ o ∷ back) ≡ front ++ replicate n o ++ back
 origins_same o front back n =

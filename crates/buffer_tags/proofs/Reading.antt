@@ -13,9 +13,10 @@ use Rattle.std.proofs.lemmas.Bool.{eqb-true, ltb-true, leb-true}
 use Rattle.buffer_tags.specs.TextParser.{after_run, after_spaces, is_quote, is_tag_byte, tag_in, natural_in, integer_in, decimal_value, bool_of_word, bool_in}
 use Rattle.buffer_tags.specs.FeatureText.{no_end, sign_in, quoted_tag_in, text_after, range_close, range_end, range_maybe_end, range_after_start, range_without_start, range_in_brackets, range_in, index_of_integer, setting_in, value_in, whole_request, feature_with_value, feature_with_range, feature_with_tag, feature_of}
 use Rattle.buffer_tags.specs.FeatureGrammar.{IsSign, IsTagName, BeginsWithout, IsTagText, IsNumber, IsInteger, IsIndex, IsEnd, IsRange, IsSetting, IsValue, IsRequest, no_sign, plus_sign, minus_sign, bare, in_quotes, numbered, switched_on, switched_off, by_sign, plain, after_equal, natural, positive, negative, open_end, placed_end, no_range, every_index, single_index, up_to, from, from_to}
-use Rattle.buffer_tags.proofs.Runs.{by_cases, both_true, list_all-run, run_and_rest, after_run-stops, after_run-none, list_all-whole}
+use Rattle.buffer_tags.proofs.Runs.{by_cases, list_all-run, run_and_rest, after_run-stops, after_run-none, list_all-whole}
 use Rattle.std.specs.Option.{option_map}
 use Rattle.buffer_tags.proofs.Options.{chained, mapped, chosen, pair_parts, some_parts, some_is}
+use Rattle.buffer_facts.proofs.Truth.{both_true}
 
 pub natural_read : (most : ℕ) (text : List ℕ) (value : ℕ) (rest : List ℕ)
     → natural_in most text ≡ Some (value, rest)

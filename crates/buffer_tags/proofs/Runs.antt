@@ -5,18 +5,13 @@ use Rattle.std.proofs.lemmas.List.{take-append-drop}
 use Rattle.std.proofs.Math.Seq.{drop-append_seam, take-append_seam}
 use Rattle.buffer_tags.specs.TextParser.{after_run}
 use Rattle.buffer_tags.specs.FeatureGrammar.{BeginsWithout}
+use Rattle.buffer_facts.proofs.Truth.{both_true}
+use Rattle.buffer_facts.proofs.Numbers.{one_more}
 
 -- by a test's answer
 pub by_cases : {G : Type 0} (b : Bool) → (b ≡ true → G) → (b ≡ false → G) → G
 by_cases true f g = f refl
 by_cases false f g = g refl
-
-one_more : (n : ℕ) → 1 + n ≡ suc n
-one_more n = omega arith
-
-pub both_true : (a b : Bool) → (a && b) ≡ true → (a ≡ true) × (b ≡ true)
-both_true true b e = (refl, e)
-both_true false b e = (e, cc)
 
 pub prefix_len-run : (p : ℕ → Bool) (run rest : List ℕ) → list_all p run ≡ true → BeginsWithout p rest → prefix_len p (run ++ rest) ≡ length run
 prefix_len-run p [] [] all stops = refl

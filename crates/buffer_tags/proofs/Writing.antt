@@ -12,8 +12,9 @@ use Rattle.buffer_tags.specs.declared.feature.Feature.{Feature}
 use Rattle.buffer_tags.specs.TextParser.{after_run, after_spaces, is_quote, is_tag_byte, tag_in, natural_in, integer_in, decimal_value, bool_of_word, bool_in}
 use Rattle.buffer_tags.specs.FeatureText.{no_end, sign_in, quoted_tag_in, text_after, range_maybe_end, range_in, index_of_integer, setting_in, value_in, feature_with_value, feature_with_range, feature_with_tag, feature_with_sign, feature_of}
 use Rattle.buffer_tags.specs.FeatureGrammar.{AreSpaces, IsSign, IsTagName, BeginsWithout, IsTagText, IsNumber, IsInteger, IsIndex, IsEnd, IsRange, IsSetting, IsValue, IsRequest, no_sign, plus_sign, minus_sign, bare, in_quotes, numbered, switched_on, switched_off, by_sign, plain, after_equal, natural, positive, negative, open_end, placed_end, no_range, every_index, single_index, up_to, from, from_to}
-use Rattle.buffer_tags.proofs.Runs.{both_true, prefix_len-run, take_while-run, after_run-run, after_run-more, after_run-none, after_run-stops}
+use Rattle.buffer_tags.proofs.Runs.{prefix_len-run, take_while-run, after_run-run, after_run-more, after_run-none, after_run-stops}
 use Rattle.buffer_tags.proofs.Bytes.{IsPlain, tag_byte_is_plain, tag_byte-quote, quote_is_plain, quote-tag_byte, digit_is_plain, space-digit, space-letter, letter, letter_is_plain, letter-digit}
+use Rattle.buffer_facts.proofs.Truth.{both_true}
 
 pub natural_written : (most : ℕ) (digits rest : List ℕ) → IsNumber most digits → BeginsWithout is_ascii_digit rest
     → natural_in most (digits ++ rest) ≡ Some (decimal_value digits, rest)

@@ -9,6 +9,7 @@ use Rattle.std.specs.Cmp.{IsTotalOrder}
 use Rattle.buffer_rows.specs.Keys as Rising
 use Rattle.buffer_unicode.specs.Keys.{is_below, precedes, rises_after, is_rising, is_at}
 use Rattle.buffer_unicode.proofs.Searches.{first_rises}
+use Rattle.buffer_facts.proofs.Numbers.{equal_pairs}
 
 abbrev pub pair_order : ℕ × ℕ → ℕ × ℕ → Ordering
 pair_order x y = ordering_then (nat_cmp x.0 y.0) (nat_cmp x.1 y.1)
@@ -18,9 +19,6 @@ pairs_total = then_total (on_total (λ (x : ℕ × ℕ). x.0) nat_cmp_total) (on
 
 below_pairs : (a b c d : ℕ) → is_lt (ordering_then (nat_cmp a c) (nat_cmp b d)) ≡ is_below a b c d
 below_pairs a b c d = grind (arith, nat_tests)
-
-equal_pairs : (a b c d : ℕ) → is_eq (ordering_then (nat_cmp a c) (nat_cmp b d)) ≡ (a == c && b == d)
-equal_pairs a b c d = grind (arith, nat_tests)
 
 module _ {R : Type 0} (high low : R → ℕ) where
   rises_from : (before : R) (rows : List R) → rises_after high low (Some before) rows ≡ true → Rising.is_rising pair_order (λ r. (high r, low r)) (Some (high before, low before)) rows ≡ true

@@ -31,7 +31,7 @@ pub ends_by_more : (e f : ℕ → Bool) → ((a : ℕ) → e a ≡ true → f a 
 ends_by_more e f more None h = refl
 ends_by_more e f more (Some (a, b)) h = more a h
 
-no_split_ends : (e : ℕ → Bool) (s : Option (ℕ × ℕ)) → is_none s ≡ true → ends_by e s ≡ true
+pub no_split_ends : (e : ℕ → Bool) (s : Option (ℕ × ℕ)) → is_none s ≡ true → ends_by e s ≡ true
 no_split_ends e None h = refl
 no_split_ends e (Some (a, b)) h = cc
 

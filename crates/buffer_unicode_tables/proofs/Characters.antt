@@ -11,7 +11,7 @@ use Rattle.buffer_unicode_tables.specs.declared.records.UnicodeRecords.{UnicodeR
 use Rattle.buffer_unicode_tables.proofs.Syllables.{among_bounds, no_split_without_syllable}
 
 -- a row that is found by its number has that number
-found_if : (b : Bool) (r : Split) (rs : List Split) (u : ℕ) → (r.whole == u) ≡ b → scalar r.whole ≡ true → scalar u ≡ false → split_in rs u ≡ None
+pub found_if : (b : Bool) (r : Split) (rs : List Split) (u : ℕ) → (r.whole == u) ≡ b → scalar r.whole ≡ true → scalar u ≡ false → split_in rs u ≡ None
     → option_map {U = ℕ × ℕ} (λ (s : Split). (s.first, s.second)) (if b then Some r else find (λ (s : Split). s.whole == u) rs) ≡ None
 found_if true r rs u e whole n later =
     let there : scalar u ≡ true = ap scalar (sym (eqb-true r.whole u e)) ∙ whole in
@@ -24,10 +24,10 @@ none_found (r ∷ rs) u h n =
     let both = and_parts (scalar r.whole) (are_of_characters rs) h in
     found_if (r.whole == u) r rs u refl both.0 n (none_found rs u both.1 n)
 
-below : (u : ℕ) → u < 44032 + 11172 → u < 55296
+pub below : (u : ℕ) → u < 44032 + 11172 → u < 55296
 below u l = omega (arith, l)
 
-scalar_syllable : (u : ℕ) (b : Bool) → is_syllable u ≡ b → scalar u ≡ false → is_syllable u ≡ false
+pub scalar_syllable : (u : ℕ) (b : Bool) → is_syllable u ≡ b → scalar u ≡ false → is_syllable u ≡ false
 scalar_syllable u true e n = let there : scalar u ≡ true = low_scalar u (below u (among_bounds 44032 11172 u e).1) in cc
 scalar_syllable u false e n = e
 

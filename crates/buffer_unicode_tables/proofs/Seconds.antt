@@ -10,6 +10,7 @@ use Rattle.buffer_unicode.specs.declared.rows.Pair.{Pair}
 use Rattle.buffer_unicode_tables.specs.Hangul.{hangul_pair}
 use Rattle.buffer_unicode_tables.specs.SecondHalves.{HaveSeconds, has_slot}
 use Rattle.buffer_unicode_tables.specs.Tables.{Tables, pair_of}
+use Rattle.buffer_facts.proofs.Truth.{first_true as first_held, second_true as rest_held, lacks_second as both_false, and_true}
 
 -- ---- a slot
 
@@ -20,18 +21,6 @@ pub slot_past : (slots : List Bool) (b at : ℕ) → at ≡ b % 1024 → length 
 slot_past slots b at is past = sym (get_or_past slots at false past) ∙ ap (λ k. get_or slots k false) is
 
 -- ---- a search
-
-both_false : (a b : Bool) → b ≡ false → (a && b) ≡ false
-both_false false b e = refl
-both_false true b e = e
-
-first_held : (a b : Bool) → (a && b) ≡ true → a ≡ true
-first_held true b e = refl
-first_held false b e = cc
-
-rest_held : (a b : Bool) → (a && b) ≡ true → b ≡ true
-rest_held true b e = e
-rest_held false b e = cc
 
 other : (slots : List Bool) (s b : ℕ) → has_slot slots s ≡ true → has_slot slots b ≡ false → (s == b) ≡ false
 other slots s b marked none = by_test (s == b) refl
@@ -72,10 +61,6 @@ mark_stays slots i b lt e = by_test (b % 1024 == i) refl
     by_test false is =
         let apart : b % 1024 ≢ i = grind (arith, nat_tests, is) in
         get_or-set_other slots i (b % 1024) true false apart ∙ e
-
-and_true : (a b : Bool) → a ≡ true → b ≡ true → (a && b) ≡ true
-and_true true b e f = f
-and_true false b e f = cc
 
 pub marks_stay : (slots : List Bool) (i : ℕ) (ps : List Pair) → i < length slots → HaveSeconds slots ps → HaveSeconds (set slots i true) ps
 marks_stay slots i [] lt have = refl

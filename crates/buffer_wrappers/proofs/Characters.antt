@@ -12,14 +12,7 @@ use Rattle.buffer_core.specs.Sides.{Sides, all_glyphs, with_added}
 use Rattle.buffer_core.specs.Settings.{glyphs_counted, most_cluster, with_reset_clusters}
 use Rattle.buffer_core.specs.Text.{added_glyph, added_text_from, added_text}
 use Rattle.buffer_wrappers.specs.Wrappers.{IsCharacter, IsText}
-
-left_of : (s t : Bool) → (s && t) ≡ true → s ≡ true
-left_of true t e = refl
-left_of false t e = e
-
-right_of : (s t : Bool) → (s && t) ≡ true → t ≡ true
-right_of true t e = e
-right_of false t e = cc
+use Rattle.buffer_facts.proofs.Truth.{first_true as left_of, second_true as right_of}
 
 -- an added character is one
 is_character : (c k : ℕ) → scalar c ≡ true → IsCharacter (added_glyph c k)

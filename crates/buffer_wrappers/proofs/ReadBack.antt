@@ -18,6 +18,7 @@ use Rattle.buffer_wrappers.specs.Printed.{name_text, cluster_text, offset_text, 
 use Rattle.buffer_wrappers.specs.Shown.{ShownGlyph, shown_glyph, numbers_and_flags, HasTypedNumbers, EqualTextsShowEqualRuns}
 use Rattle.buffer_wrappers.proofs.Numerals.{IsClear, decimal_split, signed_split}
 use Rattle.buffer_glyphs.specs.Lemmas.Handed.{flags_defined as below_eight}
+use Rattle.buffer_facts.proofs.Truth.{both_true}
 
 -- a glyph's text ends here
 abbrev IsEnd : List ℕ → Type 0
@@ -96,10 +97,6 @@ second_split y y' rest rest' fits fits' clear clear' avoids avoids' e = elim (ze
 -- `@x,y` if one is not 0, and what follows
 abbrev offset_then : ℤ → ℤ → List ℕ → List ℕ
 offset_then x y rest = cond (int_eq x (pos 0) && int_eq y (pos 0)) rest (64 ∷ (signed_decimal x ++ (44 ∷ (signed_decimal y ++ rest))))
-
-both_true : (b c : Bool) → (b && c) ≡ true → (b ≡ true) × (c ≡ true)
-both_true true c e = (refl, e)
-both_true false c e = absurd (cc)
 
 zeros_or_not : (x y : ℤ) → ((x ≡ pos 0) × (y ≡ pos 0)) ⊎ ((int_eq x (pos 0) && int_eq y (pos 0)) ≡ false)
 zeros_or_not x y = known_test (int_eq x (pos 0) && int_eq y (pos 0))

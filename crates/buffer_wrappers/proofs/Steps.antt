@@ -12,6 +12,7 @@ use Rattle.buffer_glyphs.specs.declared.position.GlyphPosition.{GlyphPosition}
 use Rattle.buffer_wrappers.specs.declared.pen.Pen.{Pen}
 use Rattle.buffer_wrappers.specs.Pen.{IsWithin, drops_advances, moved_pen, shifted_pen, pen_after}
 use Rattle.buffer_wrappers.specs.Printed.{glyph_text, glyph_texts, separator}
+use Rattle.buffer_facts.proofs.Lists.{drop_at}
 
 -- a pen moved by less than 2 ^ 31 in each direction
 pub near_step : (bound : ℕ) (pen moved : Pen) (x y : ℤ) → FitsSigned w32 x → FitsSigned w32 y
@@ -75,10 +76,6 @@ left_step i t (u ∷ us) = rw (add-one, suc_is_not_zero i)
 -- a text that grew by a and b, of which that and the rest were left to come
 regrouped : (old mid new a b left rest : List ℕ) → mid ≡ old ++ a → new ≡ mid ++ b → left ≡ a ++ (b ++ rest) → new ++ rest ≡ old ++ left
 regrouped old mid new a b left rest mid_is new_is left_is = rw (new_is, mid_is, left_is) (simp append_assoc)
-
--- a list from an element on
-drop_at : {X : Type 0} (xs : List X) (i : ℕ) (d : X) → i < length xs → drop i xs ≡ get_or xs i d ∷ drop (i + 1) xs
-drop_at xs i d lt = drop-cons xs i d lt ∙ ap (λ k. get_or xs i d ∷ drop k xs) (sym (add-one i))
 
 -- the texts from a glyph on
 texts_cons : (name_of : ℕ → Option (List ℕ)) (extents_of : ℕ → Option hb_glyph_extents_t) (flags : SerializeFlags)

@@ -12,12 +12,7 @@ use Rattle.kuspveli.specs.shape_slices.Laws.{SourceSlicesJoin}
 use Rattle.kuspveli.specs.shape_slices.Runs.{AreSourceSlices, along_glyphs, byte_range}
 use Rattle.caret_model.specs.Pens.{are_at_beginning}
 use Rattle.caret_model.proofs.Joins.{joined_before, joined_none}
-
-same_from_test : (m n : ℕ) → (m == n) ≡ true → m ≡ n
-same_from_test m n e = grind (arith, nat_tests, common_steps, e)
-
-test_from_same : (m n : ℕ) → m ≡ n → (m == n) ≡ true
-test_from_same m n e = grind (arith, nat_tests, common_steps, e)
+use Rattle.buffer_facts.proofs.Numbers.{same_by_test as same_from_test, test_of_same as test_from_same}
 
 turned : (s : SourceSlice) (ss : List SourceSlice) → reverse (byte_range s ∷ map byte_range ss) ≡ reverse (map byte_range ss) ++ byte_range s ∷ []
 turned s ss = reverse-append (byte_range s ∷ []) (map byte_range ss)

@@ -13,6 +13,7 @@ use Rattle.caret_model.specs.Laws.{CaretsLeadBack}
 use Rattle.caret_model.specs.Lines.{IsLine, Line}
 use Rattle.caret_model.specs.Moves.{IsNearest, distance, index_at, is_nearer, left_of}
 use Rattle.caret_model.proofs.Orders.{carets_in_order, past_other}
+use Rattle.buffer_facts.proofs.Numbers.{test_of_itself as same_number}
 
 -- ---- bytes
 
@@ -24,9 +25,6 @@ position_first p xs i x at passes none =
     position_or_len_is p xs i x (omega (arith, within)) (λ k less. none k (slice_index_or xs k x) less (slice_get-get_or xs k x (omega (arith, within, less)))) (λ _. ap p (get_or_from_slice_get xs i x x at) ∙ passes) in
     let is : nat_lt i (length xs) ≡ true = grind (arith, nat_tests, within) in
     ap (λ n. if nat_lt n (length xs) then Some n else None) first ∙ ap (λ b. if b then Some i else None) is
-
-same_number : (n : ℕ) → (n == n) ≡ true
-same_number n = grind (arith, nat_tests, common_steps)
 
 -- the byte of a caret leads to its index
 pub byte_leads_back : (l : Line) (i : ℕ) (c : Caret) → IsLine l → slice_get l.carets i ≡ Some c → index_at l.carets c.byte ≡ Some i

@@ -8,15 +8,10 @@ use Rattle.std.proofs.lemmas.List.{get_or_default}
 use Rattle.std.proofs.lemmas.List.MinMax.{IsFirstBest-keeps, IsFirstBest-takes, IsStrictWeakOrder-by_number}
 use Rattle.caret_model.specs.declared.carets.Caret.{Caret}
 use Rattle.caret_model.specs.Moves.{distance, is_nearer}
+use Rattle.buffer_facts.proofs.Numbers.{test_of_less as under, test_of_not_less as not_under}
 
 order : (position : ℤ) → IsStrictWeakOrder (is_nearer position)
 order position = IsStrictWeakOrder-by_number (distance position)
-
-under : (m n : ℕ) → m < n → nat_lt m n ≡ true
-under m n less = grind (arith, nat_tests, less)
-
-not_under : (m n : ℕ) → n ≤ m → nat_lt m n ≡ false
-not_under m n le = grind (arith, nat_tests, le)
 
 -- a caret that is nearer than the best one so far is the best one with it
 pub nearer_is_best : (position : ℤ) (cs : List Caret) (i b new : ℕ) (d : Caret) (m n : ℕ) → IsFirstBest (is_nearer position) cs i b → i < length cs → m ≡ distance position (slice_index_or cs i d) → n ≡ distance position (slice_index_or cs b d) → m < n → new ≡ i

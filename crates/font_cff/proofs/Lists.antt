@@ -9,10 +9,7 @@ use Rattle.font_cff.specs.declared.selects.SelectRange.{SelectRange}
 use Rattle.font_cff.specs.Selects.{copies, is_select, are_selects}
 use Rattle.font_cff.specs.Fonts.{numbers}
 use Rattle.font_cff.specs.Charset.{expert_sids, subset_sids}
-
--- one more of the rest is done
-pub one_done : {X : Type 0} (done rest all : List X) (x : X) → done ++ x ∷ rest ≡ all → (done ++ x ∷ []) ++ rest ≡ all
-one_done done rest all x h = rw append_assoc h
+use Rattle.buffer_facts.proofs.Lists.{one_done}
 
 copies_step : (x n : ℕ) → n ≢ 0 → copies x n ≡ x ∷ copies x (n - 1)
 copies_step x zero some = absurd (some refl)

@@ -3,7 +3,7 @@ use Rattle.std.proofs.Common.{◌≡◌, ◌≢◌, ℕ, zero, suc, ◌+◌, ◌
 use Rattle.layout_common.specs.declared.glyph_row.GlyphRow.{GlyphRow}
 use Rattle.font_common.specs.declared.class_definition.ClassRangeRecord.{ClassRangeRecord}
 use Rattle.font_common.specs.ClassDefinition.{class_row, listed_rows, class_run, is_next_range, are_class_ranges}
-use Rattle.font_common.proofs.Coverages.{one_done}
+use Rattle.buffer_facts.proofs.Lists.{one_done}
 
 run_step : (class first count : ℕ) → count ≢ 0 → class_run class first count ≡ record { glyph = first; value = class } ∷ class_run class (first + 1) (count - 1)
 run_step class first zero some = absurd (some refl)

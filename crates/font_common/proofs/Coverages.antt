@@ -3,12 +3,9 @@ use Rattle.std.proofs.Common.{◌≡◌, ◌≢◌, ℕ, zero, suc, ◌+◌, ◌
 use Rattle.std.proofs.lemmas.Bool.Decides.{nat_tests}
 use Rattle.font_common.specs.declared.coverage.RangeRecord.{RangeRecord}
 use Rattle.font_common.specs.Coverage.{never_fall, glyph_run, range_length, is_next, are_ranges}
+use Rattle.buffer_facts.proofs.Lists.{one_done}
 
 -- ---- any list
-
--- one more of the rest is done
-pub one_done : {X : Type 0} (done rest all : List X) (x : X) → done ++ x ∷ rest ≡ all → (done ++ x ∷ []) ++ rest ≡ all
-one_done done rest all x h = rw append_assoc h
 
 -- ---- format 1
 

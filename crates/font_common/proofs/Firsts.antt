@@ -6,7 +6,7 @@ use Rattle.std.proofs.lemmas.List.{append-nil}
 use Rattle.std.specs.declared.cmp.Ordering.{Ordering}
 use Rattle.buffer_rows.specs.Keys.{is_above, is_rising}
 use Rattle.font_common.specs.Rows.{first_rows, row_above, key_above}
-use Rattle.font_common.proofs.Coverages.{one_done}
+use Rattle.buffer_facts.proofs.Lists.{one_done}
 
 -- the first rows rise
 pub first_rows_rise : {R K : Type 0} (order : K → K → Ordering) (key : R → K) (before : Option K) (rows : List R)

@@ -23,9 +23,3 @@ either : {R K : Type 0} (order : K → K → Ordering) (key : R → K) (before :
     → is_rising order key before (if b then r ∷ first_rows order key (Some (key r)) rows else first_rows order key before rows) ≡ true
 either order key before r rows true above kept other = ap (λ b. b && is_rising order key (Some (key r)) (first_rows order key (Some (key r)) rows)) above ∙ kept
 either order key before r rows false above kept other = other
-
--- the keys of what is kept rise
-pub kept_rise : {R K : Type 0} (order : K → K → Ordering) (key : R → K) (before : Option K) (rows : List R) → is_rising order key before (first_rows order key before rows) ≡ true
-kept_rise order key before [] = refl
-kept_rise order key before (r ∷ rows) =
-    either order key before r rows (is_above order before (key r)) refl (kept_rise order key (Some (key r)) rows) (kept_rise order key before rows)

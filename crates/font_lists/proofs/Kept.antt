@@ -6,6 +6,7 @@ use Rattle.std.proofs.lemmas.Bool.Decides.{nat_tests}
 use Rattle.std.proofs.lemmas.Bool.{cases_Bool, and_parts, and_from}
 use Rattle.buffer_rows.specs.Keys.{is_above, is_rising}
 use Rattle.font_lists.specs.Scripts.{known_indices}
+use Rattle.buffer_facts.proofs.Numbers.{less_by_order as less_of}
 
 -- an element, and those after it
 pub known_step : (count i : ℕ) (is : List ℕ) → known_indices count (i ∷ is) ≡ known_indices count (i ∷ []) ++ known_indices count is
@@ -27,9 +28,6 @@ rising_by_keys one other before (x ∷ xs) (y ∷ ys) same rising =
     let above : is_above nat_cmp before (one x) ≡ true = rw key parts.0 in
     let later : is_rising nat_cmp other (Some (one x)) ys ≡ true = rw key parts.1 in
     rw above (rising_by_keys one other (Some (one x)) xs ys rest later)
-
-less_of : (a b : ℕ) → is_lt (nat_cmp a b) ≡ true → a < b
-less_of a b h = grind (arith, nat_tests)
 
 less_to : (a b : ℕ) → a < b → is_lt (nat_cmp a b) ≡ true
 less_to a b h = grind (arith, nat_tests)

@@ -16,11 +16,9 @@ use Rattle.font_records.proofs.Covered.{rows_from, row_done, same_read}
 use Rattle.layout_tables.specs.declared.value.ValueRecord.{ValueRecord}
 use Rattle.layout_tables.specs.declared.pair.PairRow.{PairRow}
 use Rattle.font_positioning.specs.Pairs.{by_second, seconds_never_fall}
+use Rattle.buffer_facts.proofs.Numbers.{at_most_by_test as le_of}
 
 -- ---- order
-
-le_of : (a b : ℕ) → nat_le a b ≡ true → a ≤ b
-le_of a b h = grind (arith, nat_tests)
 
 -- second glyphs that never fall from a least one on aren't below it
 least_at : (least : ℕ) (rows : List PairRow) (j : ℕ) (d : PairRow) → seconds_never_fall least rows ≡ true → j < length rows → least ≤ (get_or rows j d).second

@@ -13,6 +13,7 @@ use Rattle.buffer_rows.specs.Keys.{numbers_rise, is_above, is_rising}
 use Rattle.font_records.specs.Turns.{in_turn, if_any}
 use Rattle.font_records.specs.Covered.{first_records, rows_if}
 use Rattle.font_records.proofs.Turns.{turn_done, turn_refused, offsets_more, offsets_end}
+use Rattle.buffer_facts.proofs.Numbers.{at_most_by_test as le_of, order_of_less as lt_is, test_of_at_most as of_le}
 
 -- whether keys rise strictly from a least one on
 abbrev pub rise_from : {R : Type 0} → (R → ℕ) → ℕ → List R → Bool
@@ -104,15 +105,6 @@ rows_end row done room least width at count index glyphs past =
     ]
 
 -- ---- order
-
-lt_is : (a b : ℕ) → a + 1 ≤ b → is_lt (nat_cmp a b) ≡ true
-lt_is a b h = grind (arith, nat_tests)
-
-le_of : (a b : ℕ) → nat_le a b ≡ true → a ≤ b
-le_of a b h = grind (arith, nat_tests)
-
-of_le : (a b : ℕ) → a ≤ b → nat_le a b ≡ true
-of_le a b h = grind (arith, nat_tests)
 
 -- rows that rise from a number on rise from a lower one on
 pub rise_lower : {R : Type 0} (key : R → ℕ) (least more : ℕ) (rows : List R) → least ≤ more → rise_from key more rows ≡ true → rise_from key least rows ≡ true

@@ -12,37 +12,13 @@ use Rattle.std.proofs.Math.Nat.{div-eq_of_eq-mul_left, div-eq_of_lt, div-mul-le_
 use Rattle.std.proofs.Math.Pow.{pow_mono}
 use Rattle.layout_common.specs.Buckets.{IsMaskOf, bucket, has_bucket, is_bucket_from, is_bucket_of, may_have_glyph, numbers_from}
 use Rattle.layout_common.specs.Coverage.{is_covered}
+use Rattle.buffer_facts.proofs.Truth.{or_first, or_second, or_true, or_false}
+use Rattle.buffer_facts.proofs.Numbers.{same_by_test as equal, apart_by_test as other, test_of_same as same_as, test_of_itself as same_number}
 
 -- ---- tests
 
-pub equal : (a b : ℕ) → (a == b) ≡ true → a ≡ b
-equal a b e = grind (arith, nat_tests, e)
-
-other : (a b : ℕ) → (a == b) ≡ false → a ≢ b
-other a b e = grind (arith, nat_tests, e)
-
-same_number : (n : ℕ) → (n == n) ≡ true
-same_number n = grind (arith, nat_tests)
-
-pub same_as : (a b : ℕ) → a ≡ b → (a == b) ≡ true
-same_as a b e = grind (arith, nat_tests, e)
-
 two : (n : ℕ) → n < 2 → (max n 1 == 1) ≡ true
 two n lt = grind (arith, nat_tests, lt)
-
-pub or_true : (a : Bool) → (a || true) ≡ true
-or_true true = refl
-or_true false = refl
-
-pub or_false : (a : Bool) → (a || false) ≡ a
-or_false true = refl
-or_false false = refl
-
-pub or_first : (a b : Bool) → a ≡ true → (a || b) ≡ true
-or_first a b e = rw e refl
-
-pub or_second : (a b : Bool) → b ≡ true → (a || b) ≡ true
-or_second a b e = rw e (or_true a)
 
 pub or_assoc : (a b c : Bool) → ((a || b) || c) ≡ (a || (b || c))
 or_assoc true b c = refl
@@ -72,9 +48,6 @@ buckets_apart a c b none there =
     let small = bit_at-lt c b in
     let zero_there : bit_at c b ≡ 0 = omega (arith, one, both, small) in
     ap (λ n. n == 1) zero_there
-
-pub is_zero : (n : ℕ) → not (n == 0) ≡ false → n ≡ 0
-is_zero n e = grind (arith, nat_tests, e)
 
 pub empty_mask : (b : ℕ) → has_bucket 0 b ≡ false
 empty_mask b = ap (λ n. n == 1) (bit_at-zero b)
@@ -126,9 +99,6 @@ added_there is_new old new b adds e = adds b ∙ or_second (has_bucket old b) (i
 
 pub old_stays : (is_new : ℕ → Bool) (old new b : ℕ) → Adds is_new old new → has_bucket old b ≡ true → has_bucket new b ≡ true
 old_stays is_new old new b adds e = adds b ∙ or_first (has_bucket old b) (is_new b) e
-
-pub same_bucket : (b : ℕ) → (b == b) ≡ true
-same_bucket b = same_number b
 
 -- a glyph's bucket is that of one of some glyphs where it is one of them
 pub covered_bucket : (s g : ℕ) (glyphs : List ℕ) → is_covered g glyphs ≡ true → is_bucket_of s glyphs (bucket s g) ≡ true

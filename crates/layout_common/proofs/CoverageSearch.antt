@@ -10,12 +10,7 @@ use Rattle.std.proofs.lemmas.Bool.Decides.{nat_tests}
 use Rattle.std.proofs.lemmas.List.Sorted.{searchable_from_sorted, Contains-permutation, IsPermutation-sym}
 use Rattle.layout_common.specs.Coverage.{is_covered}
 use Rattle.layout_common.proofs.Bits.{same_truth as alike}
-
-same_number : (a b : ℕ) → (a == b) ≡ true → a ≡ b
-same_number a b h = grind (arith, nat_tests)
-
-itself : (a b : ℕ) → a ≡ b → (a == b) ≡ true
-itself a b h = grind (arith, nat_tests)
+use Rattle.buffer_facts.proofs.Numbers.{same_by_test as same_number, test_of_same as itself}
 
 covered_there : (g x : ℕ) (xs : List ℕ) (b : Bool) → (x == g) ≡ b → (b || is_covered g xs) ≡ true → (is_covered g xs ≡ true → Contains xs g) → Contains (x ∷ xs) g
 covered_there g x xs true e h later = (0, omega arith, same_number x g e)

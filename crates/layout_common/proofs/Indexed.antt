@@ -8,7 +8,8 @@ use Rattle.std.proofs.lemmas.Nat.{pow-add}
 use Rattle.std.proofs.lemmas.Nat.Bits.{bit_at-trailing_zeros, bit_at-zero}
 use Rattle.layout_common.specs.Buckets.{has_bucket}
 use Rattle.layout_common.specs.Subtables.{AreIndexed, HasBits}
-use Rattle.layout_common.proofs.Bits.{or_first, or_second, same_as}
+use Rattle.buffer_facts.proofs.Truth.{or_first, or_second}
+use Rattle.buffer_facts.proofs.Numbers.{test_of_same as same_as}
 
 -- ---- the bits of a word
 

@@ -8,8 +8,10 @@ use Rattle.std.proofs.lemmas.Option.{slice_get-get_or}
 use Rattle.layout_common.specs.Buckets.{has_bucket, numbers_from}
 use Rattle.layout_common.specs.Coverage.{is_covered}
 use Rattle.layout_common.specs.LowBits.{IsLowBitsOf, has_low_bits, shares_low_bits}
-use Rattle.layout_common.proofs.Bits.{all_buckets, below_64, buckets_apart, equal, full_mask, no_common_bit, number_there, or_assoc, or_false, or_first, or_second, same_as}
+use Rattle.layout_common.proofs.Bits.{all_buckets, below_64, buckets_apart, full_mask, no_common_bit, number_there, or_assoc}
 use Rattle.layout_common.proofs.Words.{bit_added_to, bit_in_word, take-all}
+use Rattle.buffer_facts.proofs.Numbers.{same_by_test as equal, test_of_same as same_as}
+use Rattle.buffer_facts.proofs.Truth.{or_false, or_first, or_second}
 
 -- a word that is set to what it is
 pub word_stays : (ws : List ℕ) (i w d : ℕ) → get_or ws i d ≡ w → ws ≡ set ws i w

@@ -16,6 +16,7 @@ use Rattle.layout_contexts.specs.Nested.{Walks, Stops, cut_at, cut_after_match, 
 use Rattle.layout_contexts.specs.Nesting.{IsLeft, Nests}
 use Rattle.layout_contexts.specs.Records.{RecordBegins, IsMoved, IsMoveRefusal, IsSpent}
 use Rattle.std.proofs.lemmas.Bool.{and_from, and_left, and_right}
+use Rattle.buffer_facts.proofs.Numbers.{test_of_less as is_under, test_of_not_less as isnt_under}
 
 pub absent : (r : SequenceLookupRecord) (ps : List ℕ) (s : Sides) → None ≡ slice_get ps r.sequence_index → RecordBegins r ps (Ok None) s s
 absent r ps s e = (refl, λ random act end. ap (λ o. outcome_at_index act r o (cut_with random s) ps end) (sym e))
@@ -23,12 +24,6 @@ absent r ps s e = (refl, λ random act end. ap (λ o. outcome_at_index act r o (
 by_test : (r : SequenceLookupRecord) (ps : List ℕ) (p : ℕ) (s : Sides) (b : Bool) → Some p ≡ slice_get ps r.sequence_index → (nat_lt p (length (whole (cut_of s))) && has_budget (cut_of s)) ≡ b → (random : ℕ) (act : ℕ → Action) (end : ℕ)
     → one_record act r (cut_with random s) ps end ≡ (if b then nested_outcome_at act r p (with_budget_spent (cut_with random s)) ps end else Walks (cut_with random s) ps end [])
 by_test r ps p s b e t random act end = ap (λ o. outcome_at_index act r o (cut_with random s) ps end) (sym e) ∙ ap (λ b. if b then nested_outcome_at act r p (with_budget_spent (cut_with random s)) ps end else Walks (cut_with random s) ps end []) t
-
-is_under : (p n : ℕ) → p < n → nat_lt p n ≡ true
-is_under p n lt = grind (arith, lt)
-
-isnt_under : (p n : ℕ) → n ≤ p → nat_lt p n ≡ false
-isnt_under p n le = grind (arith, le)
 
 pub beyond : (r : SequenceLookupRecord) (ps : List ℕ) (p : ℕ) (s : Sides) → Some p ≡ slice_get ps r.sequence_index → length (whole (cut_of s)) ≤ p → RecordBegins r ps (Ok None) s s
 beyond r ps p s e le = (refl, by_test r ps p s false e (and_left (nat_lt p (length (whole (cut_of s)))) (has_budget (cut_of s)) (isnt_under p (length (whole (cut_of s))) le)))

@@ -110,7 +110,3 @@ of_other_mask s test x e = rw e refl
 
 pub of_other_test : (s : Search) (test : Item → Bool) (x : Item) → test x ≡ false → is_wanted s test x ≡ false
 of_other_test s test x e = fits_not (has_mask s.mask x) (is_in_syllable s.syllable x) (test x) e
-
-pub not_true : (b : Bool) → not b ≡ true → b ≡ false
-not_true true e = cc
-not_true false e = refl

@@ -5,9 +5,7 @@ use Rattle.std.proofs.lemmas.Bool.Decides.{nat_tests}
 use Rattle.buffer_rows.specs.Keys.{row_with}
 use Rattle.layout_face.specs.declared.parts.VariationRow.{VariationRow}
 use Rattle.layout_face.specs.Glyphs as Glyphs
-
-equal_pairs : (a b c d : ℕ) → is_eq (ordering_then (nat_cmp a c) (nat_cmp b d)) ≡ (a == c && b == d)
-equal_pairs a b c d = grind (arith, nat_tests)
+use Rattle.buffer_facts.proofs.Numbers.{equal_pairs}
 
 pub row_of_characters : (c selector : ℕ) (rows : List VariationRow)
     → row_with (λ (x y : ℕ × ℕ). ordering_then (nat_cmp x.0 y.0) (nat_cmp x.1 y.1)) (λ (r : VariationRow). (r.character, r.selector)) (c, selector) rows ≡ Glyphs.row_of_characters c selector rows

@@ -21,11 +21,12 @@ use Rattle.buffer_stages.specs.Buffers.{cut_of, are_glyphs, frame_of, HasHappene
 use Rattle.buffer_stages.specs.Performing.{cut_with, IsPerformed}
 use Rattle.buffer_stages.proofs.Lemmas.Attempts.{cut_with_glyphs}
 use Rattle.buffer_stages.proofs.Lemmas.Frames.{then_happened, still_settings, still_limit}
-use Rattle.buffer_stages.proofs.Lemmas.Glyphs.{and_both, all_of_both, all_of_front, all_of_back, all_taken, all_dropped}
+use Rattle.buffer_stages.proofs.Lemmas.Glyphs.{all_of_both, all_of_front, all_of_back, all_taken, all_dropped}
 use Rattle.layout_gsub.specs.Ligating.{after_components, are_marks, component_count, following_items, items_at, last_given, last_index, ligature_substitution, ligature_category, ligature_item, ligature_props, own_number, component_deletions, passed_item, passed_items, has_own_number, components_at, with_component}
 use Rattle.layout_gsub.specs.Uniting.{AreUnited, IsMerged, IsRenumbered, end_of}
 use Rattle.layout_gsub.proofs.Replaced.{acts_within, refuses_past}
 use Rattle.buffer_stages.proofs.Reversed.{got_strip as item_at}
+use Rattle.buffer_facts.proofs.Truth.{and_true as and_both}
 
 -- ---- a merge
 

@@ -8,9 +8,7 @@ use Rattle.buffer_glyphs.specs.Parts.{range_of}
 use Rattle.buffer_glyphs.specs.Merges.{least_number, merged_number}
 use Rattle.buffer_glyphs.specs.Levels.{Manner, Unites, Marks, Keeps}
 use Rattle.buffer_glyphs.specs.Origins.{Origin, numbers, cast, origins_merged, added_outside, origins_marked, origins_merged_as}
-
-same_is : (n : ℕ) → (n == n) ≡ true
-same_is n = grind (arith, nat_tests)
+use Rattle.buffer_facts.proofs.Numbers.{test_of_itself as same_is}
 
 cast_same : (o : Origin) → cast o.cluster 0 o ≡ o
 cast_same o = rw (same_is o.cluster) refl

@@ -21,11 +21,12 @@ use Rattle.buffer_stages.specs.Actions.{Cut, Acts, Refuses, Action, later}
 use Rattle.buffer_stages.specs.Buffers.{are_glyphs, cut_of, frame_of, HasHappened, IsPassed, IsStill}
 use Rattle.buffer_stages.specs.Performing.{cut_with, IsPerformed}
 use Rattle.buffer_stages.proofs.Lemmas.Performed.{performs_later, same_with}
-use Rattle.buffer_stages.proofs.Lemmas.Glyphs.{and_both, all_of_both, all_of_front, all_of_back, all_dropped, first_item}
+use Rattle.buffer_stages.proofs.Lemmas.Glyphs.{all_of_both, all_of_front, all_of_back, all_dropped, first_item}
 use Rattle.layout_gsub.specs.Putting.{IsPut}
 use Rattle.layout_gsub.specs.Multiples.{component_item, component_items, multiplied_item, multiple_substitution, cut_with_multiple, neighbours_flagged, deletion}
 use Rattle.layout_gsub.proofs.Replaced.{acts_within, refuses_past}
 use Rattle.layout_gsub.proofs.Merged.{one_merged}
+use Rattle.buffer_facts.proofs.Truth.{and_true as and_both}
 
 -- one component more
 more_items : (gdef : GlyphDefinition) (x : Item) (k i : ℕ) (glyphs : List ℕ) → i < length glyphs → component_items gdef x k (take (suc i) glyphs) ≡ component_items gdef x k (take i glyphs) ++ component_item gdef x (k + i) (get_or glyphs i 0) ∷ []

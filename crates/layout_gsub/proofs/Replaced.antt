@@ -15,11 +15,12 @@ use Rattle.buffer_core.specs.Merging.{with_replaced_glyph}
 use Rattle.layout_face.specs.declared.parts.GlyphDefinition.{GlyphDefinition}
 use Rattle.buffer_stages.specs.Actions.{Cut, whole, Outcome, Acts, Refuses, within_limit}
 use Rattle.buffer_stages.specs.Buffers.{cut_of, are_glyphs, frame_of, IsRead, IsActed}
-use Rattle.buffer_stages.proofs.Lemmas.Glyphs.{and_both, all_of_both, all_of_front, all_of_back, all_dropped}
+use Rattle.buffer_stages.proofs.Lemmas.Glyphs.{all_of_both, all_of_front, all_of_back, all_dropped}
 use Rattle.buffer_stages.specs.Performing.{cut_with, IsPerformed}
 use Rattle.buffer_stages.proofs.Lemmas.Performed.{made_of_acted}
 use Rattle.layout_gsub.specs.Replacements.{substituted_item, substituted_props, single_substitution}
 use Rattle.layout_gsub.specs.LigatureReplacement.{guessed_ligature_props, ligature_replacement}
+use Rattle.buffer_facts.proofs.Truth.{and_true as and_both}
 
 -- the glyph at the cursor with other properties
 abbrev pub recast : GlyphPropsFlags → hb_glyph_info_t → hb_glyph_info_t

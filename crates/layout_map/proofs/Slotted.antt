@@ -5,20 +5,9 @@ use Rattle.std.proofs.lemmas.Bool.Decides.{nat_tests}
 use Rattle.std.proofs.lemmas.List.{get_or_default, get_or-set_same, get_or-set_other}
 use Rattle.layout_map.specs.declared.chosen_feature.feature_map_t.{feature_map_t}
 use Rattle.layout_map.specs.TagSlots.{HaveSlots, has_slot}
+use Rattle.buffer_facts.proofs.Truth.{first_true as first_held, second_true as rest_held, and_true}
 
 -- ---- a search
-
-first_held : (a b : Bool) → (a && b) ≡ true → a ≡ true
-first_held true b e = refl
-first_held false b e = cc
-
-rest_held : (a b : Bool) → (a && b) ≡ true → b ≡ true
-rest_held true b e = e
-rest_held false b e = cc
-
-and_true : (a b : Bool) → a ≡ true → b ≡ true → (a && b) ≡ true
-and_true true b e f = f
-and_true false b e f = cc
 
 other : (slots : List ℕ) (n m : ℕ) → has_slot slots n ≡ true → has_slot slots m ≡ false → (n == m) ≡ false
 other slots n m taken free = by_test (n == m) refl

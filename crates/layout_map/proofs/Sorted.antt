@@ -15,6 +15,7 @@ use Rattle.layout_map_features.specs.Fields.{field_among, kept_field, kept_field
 use Rattle.layout_map.specs.declared.chosen_feature.feature_map_t.{feature_map_t}
 use Rattle.layout_map.specs.Chosen.{ChosenTable}
 use Rattle.layout_map.specs.Features.{feature_with}
+use Rattle.buffer_facts.proofs.Numbers.{order_of_less as is_less}
 
 abbrev tag_of : feature_map_t → ℕ
 tag_of f = f.tag.0
@@ -37,9 +38,6 @@ kept_rise tables all low [] h = tt
 kept_rise tables all low (m ∷ ms) h =
     rw (map-append (feature_of tables) (kept_field m (field_among all m)) (flat_map (λ m. kept_field m (field_among all m)) ms))
     (kept_first tables low m (field_among all m) (map (feature_of tables) (flat_map (λ m. kept_field m (field_among all m)) ms)) h.0 (kept_rise tables all (m.tag.0 + 1) ms h.1))
-
-is_less : (b k : ℕ) → b + 1 ≤ k → is_lt (nat_cmp b k) ≡ true
-is_less b k le = let less : Less ≡ nat_cmp b k = nat_cmp_is b k Less (omega (arith, le)) in rw (sym less) refl
 
 rising_after : (b : ℕ) (fs : List feature_map_t) → RisesFrom tag_of (b + 1) fs → is_rising nat_cmp tag_of (Some b) fs ≡ true
 rising_after b [] h = refl

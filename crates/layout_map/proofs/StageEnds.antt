@@ -7,13 +7,8 @@ use Rattle.layout_map_features.specs.declared.lookup.lookup_map_t.{lookup_map_t}
 use Rattle.layout_map.specs.declared.stages.StageMap.{StageMap}
 use Rattle.layout_map.specs.Lookups.{Stage, stage_ends}
 use Rattle.layout_map.specs.Compiled.{are_ends, stage_start, stage_end}
-
-both : (a b : Bool) → (a && b) ≡ true → (a ≡ true) × (b ≡ true)
-both true b h = (refl, h)
-both false b h = cc
-
-at_most : (a b : ℕ) → nat_le a b ≡ true → a ≤ b
-at_most a b h = grind (arith, nat_tests)
+use Rattle.buffer_facts.proofs.Truth.{both_true as both}
+use Rattle.buffer_facts.proofs.Numbers.{at_most_by_test as at_most}
 
 ends_past : (before : ℕ) (stages : List StageMap) (total : ℕ) → are_ends before stages total ≡ true → before ≤ total
 ends_past before [] total h = at_most before total h

@@ -10,6 +10,7 @@ use Rattle.layout_map_features.specs.Groups.{group_entry, entries_below, groups_
 use Rattle.layout_map_features.specs.Entering.{RisesFrom, RisesWithin}
 use Rattle.layout_map_features.specs.Requests.{merged_request, merged_requests}
 use Rattle.layout_map_features.specs.Lookups.{joined_lookups, merged_lookups}
+use Rattle.buffer_facts.proofs.Numbers.{same_by_test as same_key}
 
 within_more : {Y : Type 0} (key : Y → ℕ) (low n : ℕ) (ys : List Y) → RisesWithin key low n ys → RisesWithin key low (suc n) ys
 within_more key low n [] h = tt
@@ -26,9 +27,6 @@ from_within key low n (y ∷ ys) h = (h.0, from_within key (key y + 1) n ys h.2)
 abbrev AllOfKey : {X : Type 0} → (X → ℕ) → ℕ → List X → Type 0
 AllOfKey key n [] = Unit {0}
 AllOfKey key n (x ∷ xs) = (key x ≡ n) × AllOfKey key n xs
-
-same_key : (a n : ℕ) → (a == n) ≡ true → a ≡ n
-same_key a n h = grind (arith, nat_tests)
 
 of_key_if : {X : Type 0} (key : X → ℕ) (n : ℕ) (x : X) (xs : List X) (b : Bool) → (key x == n) ≡ b → AllOfKey key n xs → AllOfKey key n (if b then x ∷ xs else xs)
 of_key_if key n x xs true e h = (same_key (key x) n e, h)

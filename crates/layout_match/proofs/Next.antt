@@ -14,6 +14,7 @@ use Rattle.layout_match.specs.Next.{Decides, IsAdmitted, IsNext}
 use Rattle.layout_match.specs.Searches.{Search, answer, has_mask, is_in_syllable, is_left_out, is_skippable, is_wanted}
 use Rattle.layout_match.proofs.Lemmas.Nearest.{ended_there, nearest_there, passed_there}
 use Rattle.buffer_stages.proofs.Reversed.{got_strip as item_there}
+use Rattle.buffer_facts.proofs.Truth.{lacks_second, lacks_first}
 
 not_matched : (s : Search) (test : Item → Bool) (x : Item) → is_left_out s.props s.sets x ≡ false → is_wanted s test x ≡ false → is_skippable s x ≡ false → answer s test x ≡ NOT_MATCH
 not_matched s test x admitted other shown = rw (admitted, other, shown) refl
@@ -46,13 +47,6 @@ decides_missing s x shown lacks test e admitted =
 
 visible_shown : (s : Search) (x : Item) → is_default_ignorable x ≡ false → is_skippable s x ≡ false
 visible_shown s x seen = rw seen refl
-
-lacks_first : (p q : Bool) → p ≡ false → (p && q) ≡ false
-lacks_first p q e = rw e refl
-
-lacks_second : (p q : Bool) → q ≡ false → (p && q) ≡ false
-lacks_second true q e = e
-lacks_second false q e = refl
 
 -- what a search tells, by its parameters
 pub input_unseen : (next : NextGlyph) (s own : Search) (x : Item) → s ≡ own → Decides next s x → Decides next own x

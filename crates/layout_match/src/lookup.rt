@@ -50,7 +50,7 @@ pub fn is_tried<S: Covers>(
 }
 
 /// Whether a lookup is to be tried at a glyph: its subtables may cover the glyph, and the lookup applies to it.
-#[tactic(auto, using(crate::proofs::Lemmas::Idle::uncovered_there, crate::proofs::Lemmas::Idle::unmet_there))]
+#[tactic(auto, using(buffer_facts::proofs::Truth::lacks_second, buffer_facts::proofs::Truth::lacks_first))]
 fn may_act_at<S: Covers>(
     ctx: &hb_ot_apply_context_t,
     subtables: &Digested<S>,

@@ -14,6 +14,7 @@ use Rattle.layout_offsets.specs.Links.{position_at, link_target, parent, without
 use Rattle.layout_offsets.specs.Trees.{HaveDepths, only_advances, position_drawn_from, final, AreDrawn, TreesAreDrawn, ArePartlyDrawn}
 use Rattle.layout_offsets.proofs.Lemmas.Linked.{linked_there}
 use Rattle.layout_offsets.proofs.Going.{followed_step, elsewhere}
+use Rattle.buffer_facts.proofs.Truth.{not_both}
 
 -- ---- what is drawn reads only the advances of others
 
@@ -147,9 +148,6 @@ marked_else i k done apart = elim (eqb_tells k i) [ inl is ↦ absurd (apart is.
 
 marked_more : (i k : ℕ) (done : ℕ → Bool) → done k ≡ true → marked i done k ≡ true
 marked_more i k done e = elim (eqb_tells k i) [ inl is ↦ ap (λ (b : Bool). if b then true else done k) is.0 | inr other ↦ marked_else i k done other.1 ∙ e ]
-
-not_both : (b : Bool) → b ≡ true → b ≡ false → ⊥
-not_both b t f = cc
 
 record IsDrawnWith (d : Direction) (recorded result : List Position) (done : ℕ → Bool) (depth : ℕ → ℕ) (i : ℕ) : Type 0 where
   marks : ℕ → Bool

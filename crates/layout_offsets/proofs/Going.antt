@@ -10,6 +10,7 @@ use Rattle.layout_offsets.specs.Links.{position_at, link_target, parent, without
 use Rattle.layout_offsets.specs.Walks.{is_link, is_open, opened_link, closed_link, closed_links, are_shut, Apart, Trail, trail_drawn, IsWalk, IsGoing, IsComing, WalkStops, StepsToParent, HasReturn, StepsBack}
 use Rattle.layout_offsets.proofs.Lemmas.Linked.{linked_there}
 use Rattle.layout_offsets.proofs.Shut.{shut_at, shut_closed, open_opened, parent_shut, parent_open, unlinked_open, unlinked_shut, opened_shut, IsDrawing, hung_shut, unlinked_closed}
+use Rattle.buffer_facts.proofs.Truth.{not_both as closed_not_open}
 
 pub followed_step : (draw : Drawing) (fuel next at : ℕ) (ps : List Position) → fuel ≡ suc next → with_link_followed draw fuel at ps ≡ with_parent_drawn draw (with_link_followed draw next) at (parent at ps) ps
 unfolding with_link_followed
@@ -39,9 +40,6 @@ pub linked_moves : (n i : ℕ) (d : ℤ) (j : ℕ) → link_target n i d ≡ Som
 linked_moves n i d j e = linked_moves_by (nat_abs d == 0) (if int_le (pos 0) (pos i +ℤ d) && int_lt (pos i +ℤ d) (pos n) then Some (nat_abs (pos i +ℤ d)) else None) j e
 
 -- ---- trails
-
-closed_not_open : (b : Bool) → b ≡ true → b ≡ false → ⊥
-closed_not_open b t f = cc
 
 -- a glyph that is not open is none that the walk came through
 pub trail_apart : (ps : List Position) (k at : ℕ) (by : ℤ) (stack : List ℕ) → Trail ps at by stack → is_open (position_at k ps) ≡ false → Apart k stack

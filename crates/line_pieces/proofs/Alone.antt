@@ -34,6 +34,8 @@ use Rattle.line_pieces.specs.Lines.{AreGlyphsOf, IsLine, byte_range, is_safe_at,
 use Rattle.line_pieces.specs.Steps.{text_steps}
 use Rattle.line_pieces.proofs.Rests.{IsShownCut, line_range, rest_may, rest_order}
 use Rattle.line_pieces.proofs.Shown.{flags_show_safe_breaks}
+use Rattle.buffer_facts.proofs.Numbers.{test_of_apart as other_test}
+use Rattle.buffer_facts.proofs.Truth.{false_by_not as not_false}
 
 -- ---- clusters and flags of glyphs, and of their origins
 
@@ -60,16 +62,9 @@ flagged_read c (g ∷ gs) =
 
 -- ---- where a break is safe, the law of safe breaks holds
 
-other_test : (m n : ℕ) → m ≢ n → (m == n) ≡ false
-other_test m n other = grind (arith, nat_tests, common_steps, other)
-
 or_right : (s t : Bool) → s ≡ false → (s || t) ≡ true → t ≡ true
 or_right true t e shown = cc
 or_right false t e shown = shown
-
-not_false : (t : Bool) → not t ≡ true → t ≡ false
-not_false true e = cc
-not_false false e = refl
 
 safe_may : (d : Direction) (r : Sides) (end byte : ℕ) → length r.positions ≡ length (all_glyphs r) → byte ≢ 0 → byte ≢ end → is_safe_at (text_steps d r) end byte ≡ true → MayBeCutAt byte (state_of r)
 safe_may d r end byte same some before safe =

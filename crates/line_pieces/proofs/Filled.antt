@@ -21,6 +21,8 @@ use Rattle.line_pieces.specs.Lines.{AreLines, Fits, IsLine, IsNextEnd, MayEnd, P
 use Rattle.line_pieces.specs.Steps.{text_steps}
 use Rattle.line_pieces.proofs.TextOrder.{text_count}
 use Rattle.line_pieces.proofs.Spans.{line_glyphs, line_width, walked_ordered}
+use Rattle.buffer_facts.proofs.Truth.{neither_true as neither, either_true as or_cases}
+use Rattle.buffer_facts.proofs.Numbers.{same_by_test as same_from}
 
 -- ---- breaks
 
@@ -102,17 +104,6 @@ fits_if a b e = grind (arith, ints, e)
 
 over_if : (a b : ℤ) → int_le a b ≡ false → b <ℤ a
 over_if a b e = grind (arith, ints, e)
-
-or_cases : (s t : Bool) → (s || t) ≡ true → (s ≡ true) ⊎ (t ≡ true)
-or_cases true t e = inl refl
-or_cases false t e = inr e
-
-neither : (s t : Bool) → (s || t) ≡ false → (s ≡ false) × (t ≡ false)
-neither true t e = cc
-neither false t e = (refl, e)
-
-same_from : (m n : ℕ) → (m == n) ≡ true → m ≡ n
-same_from m n e = grind (arith, nat_tests, common_steps, e)
 
 other_from : (m n : ℕ) → (m == n) ≡ false → m ≤ n → m < n
 other_from m n e le = grind (arith, nat_tests, common_steps, e, le)

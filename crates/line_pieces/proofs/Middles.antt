@@ -5,6 +5,7 @@ use Rattle.std.proofs.lemmas.Bool.{cases_lt}
 use Rattle.std.proofs.lemmas.List.{length-append, drop_at, take_at}
 use Rattle.kuspveli.specs.buffer_glyphs.Lemmas.Numbers.{Has, has_here, has_more}
 use Rattle.kuspveli.specs.buffer_parts.Slices.{IsIn}
+use Rattle.buffer_facts.proofs.Lists.{empty_by_length as empty_is}
 
 -- ---- the range of the middle
 
@@ -14,10 +15,6 @@ middle_range xs ys zs i j from to =
 
 none_range : {X : Type 0} (xs : List X) (i j : ℕ) → i ≡ j → slice_range xs i j ≡ []
 none_range xs i j same = let none : j - i ≡ 0 = omega (arith, same) in ap (λ n. take n (drop i xs)) none
-
-empty_is : {X : Type 0} (xs : List X) → length xs ≡ 0 → xs ≡ []
-empty_is [] e = refl
-empty_is (x ∷ xs) e = absurd (omega (arith, e))
 
 -- ---- where the numbers of three parts are
 

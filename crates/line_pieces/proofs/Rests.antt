@@ -16,6 +16,7 @@ use Rattle.kuspveli.specs.buffer_parts.Breaks.Unsafe.{has_flagged_of, is_flagged
 use Rattle.kuspveli.specs.shape_laws.Breaks.InLine.{MayBeCutAt, ShowsBoth, glyph_numbers}
 use Rattle.kuspveli.specs.shaping_buffer.buffer_core.Readings.{BufferState}
 use Rattle.line_pieces.proofs.Middles.{range_is_middle, range_of_middle}
+use Rattle.buffer_facts.proofs.Truth.{neither_true as neither}
 
 -- a result shows two others, the clusters of the earlier one before byte c and those of the later one from it on
 pub record IsShownCut (falls : Bool) (c : ℕ) (whole earlier later : BufferState) : Type 0 where
@@ -35,10 +36,6 @@ flagged_alike c (o ∷ os) (q ∷ qs) same =
     let bits : bit_and o.flags 1 ≡ bit_and q.flags 1 = sym (and_assoc 1 o.flags 5) ∙ ap (λ n. bit_and n 1) same.1 ∙ and_assoc 1 q.flags 5 in
     let here : is_flagged_of c o ≡ is_flagged_of c q = ap (λ n. n == c && bit_and o.flags 1 == 1) same.0 ∙ ap (λ n. q.cluster == c && n == 1) bits in
     ap (λ t. t || has_flagged_of c os) here ∙ ap (λ t. is_flagged_of c q || t) (flagged_alike c os qs same.2)
-
-neither : (s t : Bool) → (s || t) ≡ false → (s ≡ false) × (t ≡ false)
-neither true t e = cc
-neither false t e = (refl, e)
 
 unflagged_both : (falls : Bool) (c : ℕ) (os qs : List Origin) → has_flagged_of c (as_they_stand falls os qs) ≡ false → (has_flagged_of c os ≡ false) × (has_flagged_of c qs ≡ false)
 unflagged_both false c os qs e = neither (has_flagged_of c os) (has_flagged_of c qs) (sym (list_any-append (is_flagged_of c) os qs) ∙ e)

@@ -13,6 +13,7 @@ use Rattle.line_pieces.specs.declared.steps.Step.{Step}
 use Rattle.line_pieces.specs.Cuts.{IsBounded, IsSplit, IsWalked, pen_after, pen_to, run_is_safe}
 use Rattle.line_pieces.specs.Lines.{is_of, is_unsafe_of, pen_before, pen_with}
 use Rattle.line_pieces.proofs.TextOrder.{Rises}
+use Rattle.buffer_facts.proofs.Numbers.{test_of_apart as other_is, test_of_same as same_is, test_of_less as less_is, test_of_not_less as not_less_is}
 
 -- ---- the pen
 
@@ -89,12 +90,6 @@ walked_whole ss byte n pen is all = record {
 
 -- ---- the sum of the advances before a byte
 
-less_is : (m n : ℕ) → m < n → nat_lt m n ≡ true
-less_is m n h = grind (arith, nat_tests, h)
-
-not_less_is : (m n : ℕ) → n ≤ m → nat_lt m n ≡ false
-not_less_is m n h = grind (arith, nat_tests, h)
-
 shifted : (s : Step) (ss : List Step) (byte at : ℕ) → IsSplit (s ∷ ss) byte (suc at) → IsSplit ss byte at
 shifted s ss byte at is k t there = let both = is (suc k) t there in (λ under. both.0 (omega (arith, under)), λ less. let over = both.1 less in omega (arith, over))
 
@@ -123,12 +118,6 @@ pen_there ss byte at pen is = is.sum ∙ sym (sum_from ss byte at (pos 0) is.spl
 
 at_drop : (ss : List Step) (i : ℕ) (s : Step) → slice_get ss i ≡ Some s → drop i ss ≡ s ∷ drop (i + 1) ss
 at_drop ss i s at = drop_more ss i s (slice_get_within ss i s at) ∙ ap (λ t. t ∷ drop (i + 1) ss) (get_or_from_slice_get ss i s s at)
-
-same_is : (m n : ℕ) → m ≡ n → (m == n) ≡ true
-same_is m n h = grind (arith, nat_tests, common_steps, h)
-
-other_is : (m n : ℕ) → m ≢ n → (m == n) ≡ false
-other_is m n h = grind (arith, nat_tests, common_steps, h)
 
 pub run_ends : (c i : ℕ) (found : Bool) (ss : List Step) (s : Step) → slice_get ss i ≡ Some s → s.cluster ≢ c → run_is_safe c found (drop i ss) ≡ found
 run_ends c i found ss s at other = ap (run_is_safe c found) (at_drop ss i s at) ∙ ap (λ t. if t then (if s.is_unsafe then false else run_is_safe c true (drop (i + 1) ss)) else found) (other_is s.cluster c other)

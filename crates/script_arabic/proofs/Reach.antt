@@ -19,6 +19,7 @@ use Rattle.script_arabic.specs.TilePositions.{begin, begins_at, copy_positions, 
 use Rattle.script_arabic.specs.TileLaws.{LeftmostIsThere, TilesReach, begins_otherwise}
 use Rattle.script_arabic.proofs.Numbers.{between, copies_begin, fixed_grown, grown}
 use Rattle.script_arabic.proofs.Shared.{are_enough, repeats_some}
+use Rattle.buffer_facts.proofs.Truth.{both_true as both_parts, false_by_not as no_tile}
 
 -- ---- the leftmost
 
@@ -36,17 +37,9 @@ abbrev begin_of : FaceParts → Run → List Item → ℤ
 begin_of font r [] = pos 0
 begin_of font r (x ∷ xs) = copy_begin (tile_in_run font x r) (begin_of font r xs) (copies_of x r)
 
-both_parts : (a b : Bool) → (a && b) ≡ true → (a ≡ true) × (b ≡ true)
-both_parts true b e = (refl, e)
-both_parts false b e = cc
-
 none_begins : (o : Option Tile) (z : ℤ) → o ≡ None → begins_at o z ≡ pos 0
 none_begins None z e = refl
 none_begins (Some t) z e = cc
-
-no_tile : (b : Bool) → not b ≡ true → b ≡ false
-no_tile true e = cc
-no_tile false e = refl
 
 ends_begin : (font : FaceParts) (r : Run) (rest : List Item) (ps : List Position) → begins_otherwise rest ≡ true → length ps ≡ length rest → begin (tiles font rest (runs font (Tiles r) rest ps)) ≡ pos 0
 ends_begin font r [] ps e long = refl

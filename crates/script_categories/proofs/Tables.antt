@@ -8,11 +8,7 @@ use Rattle.script_categories.specs.Names.{number_of, AreInOrder, AreNumbered}
 use Rattle.script_categories.specs.Shapers.{kinds_of, indic_kinds, khmer_kinds, myanmar_kinds, universal_kinds, KindsAreNumbered}
 use Rattle.script_categories.specs.Thai.{thai_actions, ThaiActionsAreNumbered}
 use Rattle.script_categories.specs.Universal.{universal_categories, UniversalCategoriesAreNumbered}
-
-all_equal : {X Y : Type 0} (f g : X → Y) (xs : List X) → map f xs ≡ map g xs → All (λ x. f x ≡ g x) xs
-all_equal f g [] e k d h = absurd (omega arith)
-all_equal f g (x ∷ xs) e zero d h = cc
-all_equal f g (x ∷ xs) e (suc k) d h = let rest : map f xs ≡ map g xs = cc in all_equal f g xs rest k d (omega arith)
+use Rattle.buffer_facts.proofs.Lists.{all_equal}
 
 numbered_list : (rows : List (List ℕ × ℕ)) → AreInOrder (map (λ row. row.1) rows)
     → map (λ (row : List ℕ × ℕ). number_of rows row.0) rows ≡ map (λ (row : List ℕ × ℕ). Some row.1) rows → AreNumbered rows

@@ -8,10 +8,7 @@ use Rattle.buffer_glyphs.specs.Origins.{origin_of}
 use Rattle.script_hangul.specs.declared.masks.JamoMasks.{JamoMasks}
 use Rattle.script_hangul.specs.Masks.{AreFlagless, mask_of, with_letter_mask}
 use Rattle.buffer_stages.proofs.Lemmas.Masks.{mask_above}
-
-either : (t : Bool) (a b : ℕ) → bit_and a 7 ≡ 0 → bit_and b 7 ≡ 0 → bit_and (if t then a else b) 7 ≡ 0
-either true a b e f = e
-either false a b e f = f
+use Rattle.buffer_facts.proofs.Bits.{either_without_three_bits as either}
 
 mask_flagless : (masks : JamoMasks) (n : ℕ) → AreFlagless masks → bit_and (mask_of masks n) 7 ≡ 0
 mask_flagless masks n e = either (n == 1) masks.ljmo (if n == 2 then masks.vjmo else if n == 3 then masks.tjmo else 0) e.ljmo (either (n == 2) masks.vjmo (if n == 3 then masks.tjmo else 0) e.vjmo (either (n == 3) masks.tjmo 0 e.tjmo refl))

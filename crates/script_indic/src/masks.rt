@@ -40,7 +40,7 @@ fn mask_at_one(map: &hb_ot_map_t, name: &[u8; 4]) -> hb_mask_t
 }
 
 /// The mask of glyphs before the base: half, and blwf where it forms consonants before the base too.
-#[tactic(auto, using(crate::proofs::Flagless::both_flagless))]
+#[tactic(auto, using(buffer_facts::proofs::Bits::both_without_three_bits))]
 fn before_base_mask(half: hb_mask_t, blwf: hb_mask_t, blwf_mode: BlwfMode) -> hb_mask_t
     requires half { bit_and half DEFINED ≡ 0 }
     requires blwf { bit_and blwf DEFINED ≡ 0 }

@@ -22,6 +22,7 @@ use Rattle.script_khmer.specs.Khmer.{Step, is_coeng, khmer_at, khmer_walk, uncha
 use Rattle.script_khmer.specs.Runs.{IsPlain, IsRun, forms_masked, forms_moved, is_vowel, together}
 use Rattle.buffer_stages.specs.Lemmas.Fronted.{all_moved_fronts, moved_one, moved_two, moves_seen}
 use Rattle.script_khmer.proofs.KhmerSteps.{at_form, at_other, coeng_turned, front_turned, got_after, got_next, met_if, within_at}
+use Rattle.buffer_facts.proofs.Truth.{both_true}
 
 abbrev kind : Item → ℕ
 kind x = x.category
@@ -129,11 +130,6 @@ run_masked forms few bits (x ∷ y ∷ zs) h = (h.0, run_masked forms few bits (
 
 tail_same : (f : Item → Item) (x : Item) (zs : List Item) → map f (x ∷ zs) ≡ x ∷ zs → map f zs ≡ zs
 tail_same f x zs e = ap (drop 1) e
-
-both_true : (a b : Bool) → (a && b) ≡ true → (a ≡ true) × (b ≡ true)
-both_true true true e = (refl, refl)
-both_true true false e = cc
-both_true false b e = cc
 
 -- a run's first item that is in no form is no coeng that counts
 alone_not : (a b : Bool) → b ≡ false → (a && not b) ≡ false → a ≡ false

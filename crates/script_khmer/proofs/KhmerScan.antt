@@ -22,13 +22,9 @@ use Rattle.buffer_stages.specs.Lemmas.Parts.{item_masked_is, origin_masked_is, p
 use Rattle.script_khmer.specs.Runs.{IsRun, ends_run, forms_masked, is_vowel, run_length, front_count, together}
 use Rattle.script_khmer.specs.Lemmas.Forms.{ra_no_coeng}
 use Rattle.buffer_stages.specs.Lemmas.Fronted.{part_of as middle}
+use Rattle.buffer_facts.proofs.Lists.{drop_at as drop_first}
 
 -- ---- lists from an index on
-
-drop_first : {X : Type 0} (gs : List X) (i : ℕ) (d : X) → i < length gs → drop i gs ≡ get_or gs i d ∷ drop (i + 1) gs
-drop_first [] i d lt = absurd (omega (arith, lt))
-drop_first (g ∷ gs) zero d lt = refl
-drop_first (g ∷ gs) (suc i) d lt = let next : suc i + 1 ≡ suc (i + 1) = omega arith in drop_first gs i d (omega (arith, lt)) ∙ ap (λ n. get_or gs i d ∷ drop n (g ∷ gs)) (sym next)
 
 drop_two : {X : Type 0} (gs : List X) (i : ℕ) (d : X) → i + 2 ≤ length gs → drop i gs ≡ get_or gs i d ∷ get_or gs (i + 1) d ∷ drop (i + 2) gs
 drop_two gs i d le =

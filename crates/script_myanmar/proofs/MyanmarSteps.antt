@@ -27,6 +27,7 @@ use Rattle.script_myanmar.specs.Lemmas.Sizes.{positions_size}
 use Rattle.buffer_stages.proofs.Lemmas.Elements.{split_at}
 use Rattle.script_syllabic.proofs.Marking.{categories_seen as kinds_seen}
 use Rattle.buffer_glyphs.specs.Lemmas.Origins.{slice_seen as range_seen}
+use Rattle.buffer_facts.proofs.Numbers.{more_than_one as two_more, more_than_none as one_more}
 
 -- ---- what is seen of glyphs
 
@@ -59,12 +60,6 @@ left_here : (gs : List hb_glyph_info_t) (i : ℕ) (g : hb_glyph_info_t) (t : Boo
 left_here gs i g t at e =
     let rest = filter is_pre_base_vowel (strip (drop (i + 1) gs)) in
     ap (λ hs. filter is_pre_base_vowel (strip hs)) (split_at gs i g at) ∙ ap (λ (b : Bool). if b then item_of g ∷ rest else rest) e
-
-two_more : (n : ℕ) → nat_lt 1 (suc n) ≡ nat_lt 0 n
-two_more n = grind (arith, nat_tests, common_steps)
-
-one_more : (n : ℕ) → nat_lt 0 (suc n) ≡ true
-one_more n = grind (arith, nat_tests, common_steps)
 
 pub first_left : (gs : List hb_glyph_info_t) (i : ℕ) (g : hb_glyph_info_t) (b met : Bool) → slice_get gs i ≡ Some g → is_pre_base_vowel (item_of g) ≡ true → met ≡ false → are_two met (drop i gs) ≡ b → are_two true (drop (i + 1) gs) ≡ b
 first_left gs i g b met at e none f =

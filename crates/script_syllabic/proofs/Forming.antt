@@ -27,6 +27,7 @@ use Rattle.script_syllabic.specs.Formed.{glyph_with_form}
 use Rattle.buffer_glyphs.specs.Lemmas.Origins.{slice_seen as range_seen}
 use Rattle.buffer_stages.specs.Lemmas.Fronted.{part_of as middle}
 use Rattle.buffer_core.proofs.Masked.{high_cleared, without_flags_is}
+use Rattle.buffer_facts.proofs.Bits.{three_bits_stay as flags_stay}
 
 -- ---- one mask
 
@@ -52,15 +53,6 @@ cleared_above m under none =
     let f : bit_and (n % 8) (under % 8) ≡ 0 = ap (bit_and (n % 8)) none ∙ and_zero_r (n % 8) in
     let some = and_le_l (m / 8) (under / 8) in
     omega (arith, a, b, is, c, d, e, f, some)
-
-flags_stay : (m under : ℕ) → under % 8 ≡ 0 → bit_and (m - bit_and m under) 7 ≡ bit_and m 7
-flags_stay m under none =
-    let a = and_mask (m - bit_and m under) 3 in
-    let b = and_mask m 3 in
-    let low = and_mod m under 3 in
-    let off : bit_and (m % 8) (under % 8) ≡ 0 = ap (bit_and (m % 8)) none ∙ and_zero_r (m % 8) in
-    let most = and_le_l m under in
-    omega (arith, a, b, low, off, most)
 
 item_formed : (masks : FormMasks) (form : ℕ) (g : hb_glyph_info_t) → item_of (glyph_with_form (form_bits masks) form g) ≡ with_form masks form (item_of g)
 item_formed masks form g =

@@ -12,6 +12,7 @@ use Rattle.buffer_core.specs.Sides.{Sides, items_of, state_of, view_of, zero_pos
 use Rattle.buffer_stages.specs.Stages.{IsFollowed}
 use Rattle.script_syllabic.specs.declared.circles.CircleRule.{CircleRule}
 use Rattle.script_syllabic.specs.Circles.{CircledItem, There, Inserted, Due, begins, is_broken, circled_at_start, circle_events, circle_item, circled_rest, circled_items, circles_put, is_repha, with_circles}
+use Rattle.buffer_facts.proofs.Truth.{or_second as either}
 
 -- the number of circles that are due
 abbrev due_count : Option Due → ℕ
@@ -82,10 +83,6 @@ broken_byte kind byte some e = by_test (byte == 0) refl
         let zeros : bit_and byte 15 ≡ 0 = ap (λ n. bit_and n 15) none ∙ and_zero_l 15 in
         absurd (omega (arith, same, zeros, some))
     by_test false is = e
-
-either : (s t : Bool) → t ≡ true → (s || t) ≡ true
-either true t e = refl
-either false t e = e
 
 broken_begins : (r : CircleRule) (xs : List Item) → 0 < r.kind → list_any (is_broken r) xs ≡ true → list_any (begins r 0) xs ≡ true
 broken_begins r [] some e = cc

@@ -6,14 +6,7 @@ use Rattle.buffer_glyphs.specs.Items.{item_of, strip}
 use Rattle.buffer_glyphs.proofs.Lists.{get_or_mapped}
 use Rattle.buffer_properties.specs.Characters.{is_mark}
 use Rattle.shape_fallback.specs.Marks.{marks}
-
-one_more : (n : ℕ) (b : Bool) → b ≡ true → (if b then n + 1 else 0) ≡ n + 1
-one_more n true e = refl
-one_more n false e = cc e
-
-no_more : (n : ℕ) (b : Bool) → b ≡ false → (if b then n + 1 else 0) ≡ 0
-no_more n true e = cc e
-no_more n false e = refl
+use Rattle.buffer_facts.proofs.Numbers.{counted_on as one_more, counted_anew as no_more}
 
 within : (gs : List hb_glyph_info_t) (i : ℕ) → i < length gs → i < length (strip gs)
 within gs i lt = let same = length-map gs item_of in omega (arith, lt, same)

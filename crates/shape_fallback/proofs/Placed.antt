@@ -21,6 +21,7 @@ use Rattle.shape_fallback.specs.declared.marks.Before.{Before}
 use Rattle.shape_fallback.specs.declared.marks.Before.TheVariants.{Nothing}
 use Rattle.shape_fallback.specs.declared.marks.Step.{Step}
 use Rattle.shape_fallback.specs.Marks.{HasBound, base_events, is_left_to_right, positioned_marks, step, with_positioned_marks}
+use Rattle.buffer_facts.proofs.Truth.{first_true as left_true, second_true as right_true}
 
 -- ---- a list of positions, of which so many are what the whole has
 
@@ -138,14 +139,6 @@ ends font by i count before start now ready le w =
       settings = refl;
       ready = record { closed = ready.closed; front = ready.front; unread = ready.unread; placed = long; unrefused = ready.unrefused };
     })
-
-left_true : (a b : Bool) → (a && b) ≡ true → a ≡ true
-left_true true b e = refl
-left_true false b e = cc e
-
-right_true : (a b : Bool) → (a && b) ≡ true → b ≡ true
-right_true true b e = e
-right_true false b e = cc e
 
 -- a glyph on the way has a number that a glyph can have
 number_within : (xs : List Item) (i : ℕ) (x : Item) → i < length xs → are_glyphs xs ≡ true → (get_or xs i x).number ≤ 65535

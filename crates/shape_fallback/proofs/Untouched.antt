@@ -19,14 +19,11 @@ use Rattle.buffer_stages.specs.Lemmas.Written.{read_followed}
 use Rattle.shape_fallback.specs.Classes.{fallback_class, item_with_fallback_class, with_fallback_classes}
 use Rattle.shape_fallback.specs.Spaces.{is_own_space, is_typed_space, space_of_type, space_position, with_spaces}
 use Rattle.shape_fallback.specs.Zeroing.{mark_zeroed, with_marks_zeroed, zeroed_position}
+use Rattle.buffer_facts.proofs.Truth.{chosen_second as untouched}
 
 any_stripped : (test : Item → Bool) (gs : List hb_glyph_info_t) → list_any test (strip gs) ≡ list_any (λ (g : hb_glyph_info_t). test (item_of g)) gs
 any_stripped test [] = refl
 any_stripped test (g ∷ gs) = ap (λ b. test (item_of g) || b) (any_stripped test gs)
-
-untouched : {X : Type 0} (b : Bool) (x y : X) → b ≡ false → (if b then y else x) ≡ x
-untouched true x y e = cc
-untouched false x y e = refl
 
 -- items that fail a test stay, under a map that leaves such items
 items_stay : (test : Item → Bool) (k : Item → Item) → ((x : Item) → test x ≡ false → k x ≡ x) → (xs : List Item) → list_any test xs ≡ false → map k xs ≡ xs

@@ -14,14 +14,11 @@ use Rattle.buffer_stages.specs.Stages.{IsFollowed, with_items_mapped}
 use Rattle.buffer_stages.specs.Lemmas.Written.{read_followed}
 use Rattle.shape_glyphs.specs.Ignorables.{hidden_item}
 use Rattle.shape_glyphs.specs.Widths.{ignorable_position, widthless}
+use Rattle.buffer_facts.proofs.Truth.{chosen_second as stays}
 
 any_stripped : (gs : List hb_glyph_info_t) → list_any is_default_ignorable (strip gs) ≡ list_any (λ (g : hb_glyph_info_t). is_default_ignorable (item_of g)) gs
 any_stripped [] = refl
 any_stripped (g ∷ gs) = ap (λ b. is_default_ignorable (item_of g) || b) (any_stripped gs)
-
-stays : {X : Type 0} (b : Bool) (x y : X) → b ≡ false → (if b then y else x) ≡ x
-stays true x y e = cc
-stays false x y e = refl
 
 -- without default ignorables no item is replaced
 items_stay : (glyph : ℕ) (xs : List Item) → list_any is_default_ignorable xs ≡ false → map (hidden_item glyph) xs ≡ xs

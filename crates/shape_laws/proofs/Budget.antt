@@ -26,6 +26,7 @@ use Rattle.shape_laws.proofs.Limits.{glyphs_depend_on_no_limit}
 use Rattle.shape_laws.proofs.Passing.{Passes, Reaches, in_order_passes, passes_in_order}
 use Rattle.shape_laws.proofs.Shapers.{shapers_normalize_as_unicode}
 use Rattle.layout_map.proofs.StageEnds.{self_most as own_count}
+use Rattle.buffer_facts.proofs.Numbers.{test_of_at_most as within}
 
 -- ---- the way of a text up to the reset
 
@@ -92,9 +93,6 @@ unfelt d = record {
 never_raised : (stage : Stage) (v : View) (r : Read) (d : ℕ) → CountsBudget stage → stage v ≡ Ok r → allows r.view.max_ops d ≡ true → allows v.max_ops d ≡ true
 never_raised stage v r d counts e l =
     (subst (λ (x : Reading). ReadingCounts (λ z. allows z d) (λ z. z) v.max_ops x (stage (with_budget_changed (λ z. z) v))) e (counts (λ z. allows z d) (λ z. z) (unfelt d) v) l).0
-
-within : (n m : ℕ) → n ≤ m → nat_le n m ≡ true
-within n m h = grind (arith, nat_tests, common_steps, h)
 
 -- ---- enough budget
 

@@ -17,6 +17,7 @@ use Rattle.buffer_core.specs.Moving.{after_move_to}
 use Rattle.buffer_stages.specs.Appending.{frame_of}
 use Rattle.shape_normalize.specs.Composed.{composition_events, HasRoom, IsComposed, IsWritten}
 use Rattle.shape_normalize.proofs.Room.{room_kept}
+use Rattle.buffer_facts.proofs.Lists.{length_set}
 
 pub one_behind : (s a : Sides) → 0 < length s.ahead → a ≡ after_next_glyphs 1 s → length a.behind ≡ length s.behind + 1
 one_behind s a some next = ap (λ (t : Sides). length t.behind) next ∙ length-append s.behind (take 1 s.ahead) ∙ ap (λ n. length s.behind + n) (length-take-le 1 s.ahead (omega (arith, some)))
@@ -44,11 +45,6 @@ mark_ahead s a b d e kept items back gone =
     ap (λ (t : Sides). strip t.ahead) gone ∙ skipped_ahead d ∙ ap (λ (t : Sides). drop 1 (strip t.ahead)) back ∙ ap (drop 1)
     (sym (drop-map item_of (length s.behind) (all_glyphs b)) ∙ ap (drop (length s.behind)) (seen_all s a b kept items)
     ∙ ap (λ n. drop n (strip s.behind ++ strip s.ahead)) (sym (length-map s.behind item_of)) ∙ drop-append_seam (strip s.behind) (strip s.ahead))
-
-pub length_set : {X : Type 0} (xs : List X) (i : ℕ) (x : X) → length (slice_set xs i x) ≡ length xs
-length_set [] i x = refl
-length_set (y ∷ xs) zero x = refl
-length_set (y ∷ xs) (suc i) x = ap suc (length_set xs i x)
 
 pub set_seen : {X Y : Type 0} (f : X → Y) (xs : List X) (i : ℕ) (x : X) → map f (slice_set xs i x) ≡ slice_set (map f xs) i (f x)
 set_seen f [] i x = refl

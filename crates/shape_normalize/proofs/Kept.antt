@@ -18,6 +18,7 @@ use Rattle.shape_normalize.specs.Fronts.{expansion_after, is_undecomposed, is_wh
 use Rattle.shape_normalize.specs.KeptRuns.{group_reach, is_kept, HasOwn, Keeps}
 use Rattle.shape_normalize.proofs.Lemmas.Chain.{beside_assoc, in_turn_both, none_beside}
 use Rattle.shape_normalize.proofs.Taken.{groups_list, groups_of, groups_over, one_whole}
+use Rattle.buffer_facts.proofs.Truth.{false_by_not as not_true}
 
 -- ---- marks from an index on
 
@@ -84,10 +85,6 @@ kept_all p i from count gs le few e =
 own_found : (x : Item) (o : Option ℕ) → x.glyph_index ≡ unwrap_or o 0 → (x.glyph_index == 0) ≡ false → is_some o ≡ true
 own_found x (Some g) e n = refl
 own_found x None e n = absurd (let zeros : (x.glyph_index == 0) ≡ true = ap (λ k. k == 0) e in cc)
-
-not_true : (b : Bool) → not b ≡ true → b ≡ false
-not_true true e = absurd (let bad = e in cc)
-not_true false e = refl
 
 kept_pieces : (c : Normalizer) (reach : Reach) (x : Item) → with_own_glyph c x ≡ x → is_kept c reach x ≡ true → (is_whole c reach x ≡ true) × (is_selector x ≡ false)
 kept_pieces c reach x own kept =

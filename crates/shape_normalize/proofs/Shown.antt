@@ -16,9 +16,10 @@ use Rattle.buffer_properties.specs.Characters.{mark_class, visible_item}
 use Rattle.buffer_properties.specs.Ordering.{joiner_between, joiners_shown, separates_nothing, with_joiners_shown}
 use Rattle.buffer_stages.specs.Appending.{frame_of}
 use Rattle.shape_normalize.specs.Runs.{HasItems, ShowsAt}
-use Rattle.shape_normalize.proofs.Compositions.{length_set, set_seen, set_same}
+use Rattle.shape_normalize.proofs.Compositions.{set_seen, set_same}
 use Rattle.shape_normalize.proofs.Walk.{set_seam}
 use Rattle.buffer_lists.specs.Lemmas.Picked.{got_after as get_seam}
+use Rattle.buffer_facts.proofs.Lists.{length_set}
 
 all_ahead : (s : Sides) → IsReady s → all_glyphs s ≡ s.ahead
 all_ahead s ready = ap (λ hs. hs ++ s.ahead) ready.front

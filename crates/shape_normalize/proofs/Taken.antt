@@ -32,6 +32,7 @@ use Rattle.shape_normalize.specs.Rounds.{IsArranged}
 use Rattle.shape_normalize.proofs.Joined.{list_overfills}
 use Rattle.shape_normalize.proofs.Lemmas.Chain.{beside_assoc, brought_then, in_turn_both, none_beside, overfills_behind}
 use Rattle.buffer_stages.specs.Lemmas.Rewritings.{by_settings}
+use Rattle.buffer_facts.proofs.Numbers.{one_more}
 
 -- ---- one character
 
@@ -86,9 +87,6 @@ groups_of c (y ∷ ys) = expanded_groups c y [] ys
 pub groups_list : (c : Normalizer) (xs : List Item) → in_turn (groups_of c xs) ≡ expanded_list c xs
 groups_list c [] = refl
 groups_list c (x ∷ xs) = refl
-
-one_more : (n : ℕ) → 1 + n ≡ suc n
-one_more n = omega arith
 
 -- a character with the marks after it, and the rest
 pub groups_over : (c : Normalizer) (x : Item) (ms ys : List Item) → expanded_groups c x ms ys ≡ expanded_group c x (ms ++ take (prefix_len is_mark ys) ys) ++ groups_of c (drop (prefix_len is_mark ys) ys)

@@ -60,6 +60,8 @@ use Rattle.shape_parts.specs.Premises.{CountsItems}
 use Rattle.shape_parts.specs.StageLaws.{GraphemesAreKnown, GraphemesKeepFall, GraphemesKeepParts}
 use Rattle.shape_parts.proofs.Characters.{circle_view, clusters_steady}
 use Rattle.layout_match.proofs.Lemmas.Idle.{or_none as two_false}
+use Rattle.buffer_facts.proofs.Truth.{lacks_second as last_false}
+use Rattle.buffer_facts.proofs.Numbers.{zero_by_test as clear_of}
 
 -- ---- the events of a turn
 
@@ -212,13 +214,6 @@ both_clear a b e =
     let or = bit_at_or a b 0 in
     (omega (arith, whole, first, or, e), omega (arith, whole, second, or, e))
 
-clear_of : (n : ℕ) → not (n == 0) ≡ false → n ≡ 0
-clear_of n e = by_test (n == 0) refl e
-  where
-    by_test : (b : Bool) → (n == 0) ≡ b → not b ≡ false → n ≡ 0
-    by_test true f g = eqb-true n 0 f
-    by_test false f g = cc
-
 no_wide_flag : (a b c : Bool) → bit_and (bit_if a 1 + (bit_if b 2 + bit_if c 16)) 1 ≡ 0 → a ≡ false
 no_wide_flag false b c e = refl
 no_wide_flag true true true e = cc
@@ -274,10 +269,6 @@ is_below u e = grind (arith, nat_tests, e)
 
 four_false : (a b c d : Bool) → a ≡ false → b ≡ false → c ≡ false → d ≡ false → (a || b || c || d) ≡ false
 four_false a b c d p q r s = rw (p, q, r, s) refl
-
-last_false : (a b : Bool) → b ≡ false → (a && b) ≡ false
-last_false true b e = e
-last_false false b e = refl
 
 no_extender : (u : ℕ) → AsciiHasNoMarks → nat_le 0x80 u ≡ false → is_extender u ≡ false
 no_extender u law e =

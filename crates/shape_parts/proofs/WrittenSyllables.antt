@@ -25,7 +25,6 @@ use Rattle.buffer_parts.specs.Lemmas.Plainly.{replacement_kept}
 use Rattle.buffer_core.specs.Readings.{Read, Reading, then_read, then_reading}
 use Rattle.buffer_core.specs.Sides.{zero_positions}
 use Rattle.buffer_stages.specs.Moves.{order_of_move}
-use Rattle.buffer_stages.specs.Lemmas.Alone.{merged_alone}
 use Rattle.buffer_stages.specs.Lemmas.Moves.{order_long}
 use Rattle.buffer_parts.specs.Lemmas.Stages.{at_read}
 use Rattle.layout_face.specs.declared.parts.FaceParts.{FaceParts}
@@ -49,6 +48,8 @@ use Rattle.layout_match.proofs.Lemmas.Idle.{or_none as neither}
 use Rattle.script_dispatch.specs.Lemmas.Keeping.Hangul.{letters_some, letters_long}
 use Rattle.buffer_lists.proofs.Carried.{take_sum as take_both}
 use Rattle.buffer_stages.specs.Lemmas.Nested.{merged_length as merged_many}
+use Rattle.buffer_facts.proofs.Truth.{either_true as one_of}
+use Rattle.buffer_lists.proofs.Lemmas.SortedEvents.{lone_merged as merged_alone}
 
 -- ---- characters within syllables
 
@@ -65,10 +66,6 @@ under u a b lt = let no : nat_le a u ≡ false = grind (arith, nat_tests, lt) in
 
 over : (u a b : ℕ) → b < u → is_in_range u (a, b) ≡ false
 over u a b lt = let no : nat_le u b ≡ false = grind (arith, nat_tests, lt) in ap (λ t. nat_le a u && t) no ∙ and_none (nat_le a u)
-
-one_of : (s t : Bool) → (s || t) ≡ true → (s ≡ true) ⊎ (t ≡ true)
-one_of true t e = inl refl
-one_of false t e = inr e
 
 inside_low : (u : ℕ) → 0x115F < u → u < 0xA960 → IsInside (Some u)
 inside_low u above less = (neither (is_in_range u (0x1100, 0x115F)) (is_in_range u (0xA960, 0xA97C)) (over u 0x1100 0x115F above) (under u 0xA960 0xA97C less), under u 0xAC00 0xD7A3 (omega (arith, less)))

@@ -24,7 +24,6 @@ use Rattle.buffer_parts.specs.Lemmas.Plainly.{replacement_kept}
 use Rattle.buffer_core.specs.Readings.{Read, Reading, View, then_read, then_reading, with_events}
 use Rattle.buffer_core.specs.Sides.{zero_positions}
 use Rattle.buffer_stages.specs.Moves.{order_of_move}
-use Rattle.buffer_stages.specs.Lemmas.Alone.{merged_alone}
 use Rattle.buffer_stages.specs.Lemmas.Moves.{order_long}
 use Rattle.buffer_parts.specs.Lemmas.Stages.{at_read, both_read}
 use Rattle.script_syllabic.specs.Graphemes.{merges_by, with_graphemes_merged}
@@ -38,6 +37,7 @@ use Rattle.shape_parts.proofs.Carried.{Passes, begins_at, carried_passes, doubli
 use Rattle.shape_parts.proofs.WrittenEvents.{AreWritten, both_written, clusters_by_requests, merge_alone, merged_unasked, merges_alone, merges_written, origins_by_requests, unasked}
 use Rattle.script_thai.proofs.Counted.{last_counted}
 use Rattle.buffer_stages.specs.Lemmas.Nested.{merged_length as merged_many}
+use Rattle.buffer_lists.proofs.Lemmas.SortedEvents.{lone_merged as merged_alone}
 
 -- ---- the merges before, by the character before each
 

@@ -55,7 +55,7 @@ glyphs_of [] os = []
 glyphs_of (x ∷ xs) [] = []
 glyphs_of (x ∷ xs) (o ∷ os) = glyph_of x o ∷ glyphs_of xs os
 
-whole_mask : (m : ℕ) → without_flags m + bit_and m 7 ≡ m
+pub whole_mask : (m : ℕ) → without_flags m + bit_and m 7 ≡ m
 whole_mask m = let low = and_mask m 3 in omega (arith, low)
 
 glyph_again : (g : hb_glyph_info_t) → glyph_of (item_of g) (origin_of g) ≡ g

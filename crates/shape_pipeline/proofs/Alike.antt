@@ -14,10 +14,7 @@ use Rattle.shape_pipeline.specs.ReadingLaws.{have_no_ranges}
 use Rattle.shape_pipeline.specs.Masks.{ranges_set}
 use Rattle.shape_pipeline.specs.Reading.{after_ranges, before_ranges, clusters_after, reading, shaping_stage}
 use Rattle.shape_pipeline.specs.Shaping.{Shaping}
-
-parts_hold : (a b : Bool) → (a && b) ≡ true → (a ≡ true) × (b ≡ true)
-parts_hold true b h = (refl, h)
-parts_hold false b h = cc
+use Rattle.buffer_facts.proofs.Truth.{both_true as parts_hold}
 
 pub range_none : (b : Bool) (xs ys : List Item) → b ≡ true → (if b then xs else ys) ≡ xs
 range_none true xs ys h = refl

@@ -13,6 +13,6 @@ mod Whole
 mod Budget
 pub mod Numbers
 pub mod Shaped
-mod Serving
+pub mod Serving
 mod Texts
-mod Agreeing
+pub mod Agreeing

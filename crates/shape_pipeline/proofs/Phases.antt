@@ -30,11 +30,6 @@ use Rattle.shape_pipeline.proofs.Classed.{taken_and_substituted}
 use Rattle.shape_pipeline.proofs.Lemmas.Chains.{alike_followed, done_followed, first_refused, five_done, four_done, in_order_both, second_refused, third_refused, three_done, three_followed, two_followed}
 use Rattle.shape_pipeline.proofs.Sets.{done_as_set, followed_as_set, refused_as_set, set_as}
 
--- a cause that `?` passes on
-pub passed_on : {A E : Type 0} (r : Result A E) (e : E) (P : E → Type 0) → IsErrAnd r (λ (f : E). f ≡ e) → P e → IfErr r P
-passed_on (Ok a) e P h p = tt
-passed_on (Err f) e P h p = subst P (sym h) p
-
 -- the refusal of a stage by such a cause
 pub stage_refused : {X : Type 0} (r : Result X ShapeCause) (e : ShapeCause) (stage : Stage) (old new : Sides) → IsErrAnd r (λ (f : ShapeCause). f ≡ e) → (e ≢ OutOfMemory → reading_of stage (state_of old) ≡ Err e) → DoesStage stage r old new
 stage_refused (Ok x) e stage old new h p = absurd h

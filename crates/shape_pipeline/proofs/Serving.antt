@@ -35,7 +35,7 @@ pub direction_of_plan : (font : FaceParts) (languages : List Tag) (d : Direction
 unfolding text_plan
 direction_of_plan font languages d s features plan is = ap (λ (p : hb_script_plan_t ⊤). p.direction) is.script_plan
 
-script_of_plan : (font : FaceParts) (languages : List Tag) (d : Direction) (s : Option Script) (features : List Feature) (plan : hb_ot_shape_plan_t hb_ot_any_shaper_t ⊤)
+pub script_of_plan : (font : FaceParts) (languages : List Tag) (d : Direction) (s : Option Script) (features : List Feature) (plan : hb_ot_shape_plan_t hb_ot_any_shaper_t ⊤)
     → IsPlanned any_kind font languages d s features plan → plan.script_plan.script ≡ s
 unfolding text_plan
 script_of_plan font languages d s features plan is = ap (λ (p : hb_script_plan_t ⊤). p.script) is.script_plan

@@ -9,30 +9,10 @@ use Rattle.buffer_glyphs.specs.Lemmas.Numbers.{Has, has_cases, has_here, has_mor
 use Rattle.buffer_parts.specs.Fits.{FitsText}
 use Rattle.buffer_parts.specs.Slices.{first_or}
 use Rattle.shape_slices.specs.Deciding.{are_fitting, fall_from, rise_from}
-
-both_true : (a b : Bool) → a ≡ true → b ≡ true → (a && b) ≡ true
-both_true true b p q = q
-both_true false b p q = cc
-
-either_true : (a b : Bool) → (a || b) ≡ true → (a ≡ true) ⊎ (b ≡ true)
-either_true true b e = inl refl
-either_true false b e = inr e
-
-first_true : (a b : Bool) → a ≡ true → (a || b) ≡ true
-first_true true b e = refl
-first_true false b e = cc
-
-second_true : (a b : Bool) → b ≡ true → (a || b) ≡ true
-second_true true b e = refl
-second_true false b e = e
+use Rattle.buffer_facts.proofs.Truth.{or_first as first_true, or_second as second_true, either_true, and_true as both_true}
+use Rattle.buffer_facts.proofs.Numbers.{at_most_by_test as le_of, test_of_at_most as of_le}
 
 -- ---- order
-
-le_of : (m n : ℕ) → nat_le m n ≡ true → m ≤ n
-le_of m n e = grind (arith, nat_tests, e)
-
-of_le : (m n : ℕ) → m ≤ n → nat_le m n ≡ true
-of_le m n le = grind (arith, nat_tests, common_steps, le)
 
 no_less : (m n : ℕ) (ns : List ℕ) → m ≤ n → AllFrom (λ a b. a ≤ b) n ns → AllFrom (λ a b. a ≤ b) m ns
 no_less m n [] le h = tt

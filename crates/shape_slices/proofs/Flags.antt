@@ -14,12 +14,7 @@ use Rattle.buffer_parts.specs.Slices.{AreJoined}
 use Rattle.shape_slices.specs.declared.slices.SourceSlice.{SourceSlice}
 use Rattle.shape_slices.specs.Runs.{AreSourceSlices, glyph_range, run_clusters}
 use Rattle.shape_slices.specs.Laws.{HasOneFlagSet, RunsHaveOneFlagSet}
-
-first_equal : (m n : ℕ) (ms ns : List ℕ) → m ∷ ms ≡ n ∷ ns → m ≡ n
-first_equal m n ms ns e = cc
-
-rest_equal : (m n : ℕ) (ms ns : List ℕ) → m ∷ ms ≡ n ∷ ns → ms ≡ ns
-rest_equal m n ms ns e = cc
+use Rattle.buffer_facts.proofs.Lists.{first_equal, rest_equal}
 
 -- glyphs of one cluster at the front of a list have the flags of the first of them
 same_flags : (k c : ℕ) (f : hb_glyph_info_t) (gs : List hb_glyph_info_t) (rest : List ℕ) → f.cluster ≡ c → clusters gs ≡ replicate k c ++ rest → IsEven (origin_of f) (origins gs) → list_all (λ m. m == glyph_flags f) (flags_of (take k gs)) ≡ true

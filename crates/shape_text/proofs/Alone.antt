@@ -19,6 +19,7 @@ use Rattle.buffer_stages.specs.Lemmas.Written.{read_followed}
 use Rattle.shape_text.specs.Clusters.{grapheme_events, grapheme_lengths}
 use Rattle.shape_text.specs.NativeOrder.{without_continuation}
 use Rattle.shape_text.proofs.Formed.{alone_unchanged, lengths_of}
+use Rattle.buffer_facts.proofs.Numbers.{zero_by_test as zero_bits}
 
 -- no character continues a grapheme
 abbrev AreAlone : List hb_glyph_info_t → Type 0
@@ -50,9 +51,6 @@ pub graphemes_stay : (s : Sides) → IsReady s → list_any (λ (g : hb_glyph_in
 graphemes_stay s ready e = record { view = refl; origins = sym (all_unchanged s.level (flag_requests_of s) 0 (all_glyphs s) (origins_of s) e); settings = refl; ready = ready }
 
 -- ---- the continuation bit
-
-zero_bits : (n : ℕ) → not (n == 0) ≡ false → n ≡ 0
-zero_bits n e = grind (arith, common_steps, e)
 
 item_stays : (x : Item) → continues x ≡ false → without_continuation x ≡ x
 item_stays x e =

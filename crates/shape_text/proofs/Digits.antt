@@ -6,14 +6,7 @@ use Rattle.buffer_glyphs.specs.Items.{Item, item_of, strip}
 use Rattle.buffer_glyphs.proofs.Lists.{get_or_mapped, take_next, take_one}
 use Rattle.buffer_properties.specs.Categories.{is_decimal_number}
 use Rattle.shape_text.specs.Fractions.{digits, digits_before, digits_after}
-
-one_more : (n : ℕ) (b : Bool) → b ≡ true → (if b then n + 1 else 0) ≡ n + 1
-one_more n true e = refl
-one_more n false e = cc e
-
-no_more : (n : ℕ) (b : Bool) → b ≡ false → (if b then n + 1 else 0) ≡ 0
-no_more n true e = cc e
-no_more n false e = refl
+use Rattle.buffer_facts.proofs.Numbers.{counted_on as one_more, counted_anew as no_more}
 
 -- the item before an index, in front of those before it
 last_before : (xs : List Item) (i : ℕ) (d : Item) → i < length xs → reverse (take (i + 1) xs) ≡ get_or xs i d ∷ reverse (take i xs)

@@ -21,9 +21,9 @@ use Rattle.buffer_core.specs.Sides.{Settings, Sides, all_glyphs, flag_requests_o
 use Rattle.buffer_stages.specs.Ready.{IsReady}
 use Rattle.buffer_stages.specs.Stages.{Happens, IsFollowed}
 use Rattle.buffer_stages.proofs.Lemmas.Happened.{nothing_happens, both_happen}
-use Rattle.buffer_stages.specs.Lemmas.Alone.{merged_alone}
 use Rattle.buffer_stages.specs.Lemmas.Written.{read_followed}
 use Rattle.shape_text.specs.Clusters.{grapheme_event, grapheme_events, grapheme_lengths, has_non_ascii, with_clusters}
+use Rattle.buffer_lists.proofs.Lemmas.SortedEvents.{lone_merged as merged_alone}
 
 one_more : (n : ℕ) → suc n ≡ 1 + n
 one_more n = omega arith

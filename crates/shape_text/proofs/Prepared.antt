@@ -19,6 +19,7 @@ use Rattle.buffer_stages.specs.Ready.{IsReady}
 use Rattle.buffer_stages.specs.Stages.{IsFollowed}
 use Rattle.buffer_stages.specs.Lemmas.Written.{written_becomes, happened_followed}
 use Rattle.shape_text.specs.Properties.{are_characters, is_character, with_properties, glyph_prepared, glyphs_prepared, scratch_flags_of_glyphs, next_before, items_prepared, scratch_flags_of_items}
+use Rattle.buffer_facts.proofs.Bits.{and_of_or as and_or}
 
 -- glyphs of which the first so many are prepared
 prepared_suc : (t : Tables) (before : Option Before) (i : ℕ) (ys : List hb_glyph_info_t) (d : hb_glyph_info_t) → i < length ys
@@ -83,16 +84,6 @@ all_prepared t i before scratch_flags from hs xs le p =
     (sym (ap (λ ys. take i xs ++ glyphs_prepared t before ys) rest ∙ append-nil (take i xs) ∙ take_all i xs le) ∙ p.glyphs, sym (ap (λ ys. scratch_flags_of_glyphs ys scratch_flags) rest) ∙ p.tells)
 
 -- ---- the scratch flags that characters set
-
-and_or : (n a m : ℕ) → bit_and (bit_or a m) n ≡ bit_or (bit_and a n) (bit_and m n)
-and_or n a m =
-    same_from_bits (bit_and (bit_or a m) n) (bit_or (bit_and a n) (bit_and m n)) (λ i.
-    let one = bit_at_and (bit_or a m) n i in
-    let two = bit_at_or a m i in
-    let three = bit_at_or (bit_and a n) (bit_and m n) i in
-    let four = bit_at_and a n i in
-    let five = bit_at_and m n i in
-    omega (arith, one, two, three, four, five))
 
 bits_within : (a b c : Bool) → bit_and (bit_if a 1 + (bit_if b 2 + bit_if c 16)) 0xFFFF_FFDF ≡ bit_if a 1 + (bit_if b 2 + bit_if c 16)
 bits_within true true true = refl

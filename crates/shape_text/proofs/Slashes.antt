@@ -26,15 +26,9 @@ use Rattle.shape_text.specs.declared.fractions.FractionMasks.{FractionMasks}
 use Rattle.shape_text.specs.Fractions.{around_slash, fraction_at, digits_before, digits_after, first_mask, fraction_items, fractions_to, is_slash, is_slash_at, last_mask, with_features_within, with_fractions}
 use Rattle.shape_text.proofs.RangeMasks.{become_both, items_now}
 use Rattle.buffer_glyphs.proofs.Lists.{get_or_mapped}
+use Rattle.buffer_facts.proofs.Bits.{either_without_three_bits as one_flagless, both_without_three_bits as both_flagless}
 
 -- ---- masks without glyph flags
-
-both_flagless : (a b : ℕ) → bit_and a 7 ≡ 0 → bit_and b 7 ≡ 0 → bit_and (bit_or a b) 7 ≡ 0
-both_flagless a b x y = and_or_apart 7 a b y ∙ x
-
-one_flagless : (c : Bool) (a b : ℕ) → bit_and a 7 ≡ 0 → bit_and b 7 ≡ 0 → bit_and (if c then a else b) 7 ≡ 0
-one_flagless true a b x y = x
-one_flagless false a b x y = y
 
 pub first_flagless : (d : Direction) (m : FractionMasks) → bit_and m.frac 7 ≡ 0 → bit_and m.numr 7 ≡ 0 → bit_and m.dnom 7 ≡ 0 → bit_and (first_mask d m) 7 ≡ 0
 first_flagless d m f n e = both_flagless m.frac (if is_backward d then m.dnom else m.numr) f (one_flagless (is_backward d) m.dnom m.numr e n)

@@ -25,6 +25,7 @@ use Rattle.layout_common.specs.declared.glyph_row.GlyphRow.{GlyphRow}
 use Rattle.layout_common.specs.declared.class_definition.ClassDefinition.{ClassDefinition}
 use Rattle.layout_tables.specs.declared.mark.MarkRecord.{MarkRecord}
 use Rattle.layout_tables.specs.Fits.{class_count, mark_class_count}
+use Rattle.buffer_facts.proofs.Numbers.{test_through as within}
 
 -- rows that rise by their keys are the rows in turn
 pub turn_of_rising : {R K : Type 0} (order : K → K → Ordering) (key : R → K) (read : Data → Result R JsonFault) (ds : Items) (xs : List R) → rows_by_key order key read None ds ≡ Ok xs → rows_in_turn read ds ≡ Ok xs
@@ -84,9 +85,6 @@ marks_within limit count (r ∷ marks) all le =
     marks_within limit (max count (r.value.class + 1)) marks parts.1 (greater_within limit count r.value.class parts.0 le)
 
 -- ---- least lengths
-
-within : (a b c : ℕ) → nat_le a b ≡ true → nat_le b c ≡ true → nat_le a c ≡ true
-within a b c p q = grind (arith, nat_tests)
 
 -- a walk over rows that keeps the least of some lengths: each row's own is at least the result
 module _ {A : Type 0} (read : Data → Result A JsonFault) (step : ℕ → Data → ℕ) (lower : (l : ℕ) (d : Data) → nat_le (step l d) l ≡ true) (least : ℕ → Items → ℕ)

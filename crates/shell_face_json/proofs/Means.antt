@@ -11,6 +11,7 @@ use Rattle.shell_json.specs.declared.fault.JsonFault.{JsonFault}
 use Rattle.shell_json.specs.declared.fault.JsonFault.TheVariants.{NotJson, WrongShape, FloatNumber, UnknownName, OutOfOrder, OutOfRange, SplitDepth, OutOfMemory}
 use Rattle.shell_json.specs.Cell.{rank_of, first_fault, both}
 use Rattle.shell_face_json.specs.Lists.{in_front, after_all, items_of}
+use Rattle.buffer_facts.proofs.Numbers.{test_through as le_through}
 
 abbrev pub Means : {A : Type 0} → Result A JsonFault → Result A JsonFault → Type 0
 Means meant (Ok a) = meant ≡ Ok a
@@ -55,9 +56,6 @@ first_left e f h = rw h refl
 
 first_right : (e f : JsonFault) → nat_le (rank_of e) (rank_of f) ≡ false → first_fault e f ≡ f
 first_right e f h = rw h refl
-
-le_through : (a b c : ℕ) → nat_le a b ≡ true → nat_le b c ≡ true → nat_le a c ≡ true
-le_through a b c p q = grind (arith, nat_tests)
 
 not_le_through : (a b c : ℕ) → nat_le a b ≡ false → nat_le b c ≡ false → nat_le a c ≡ false
 not_le_through a b c p q = grind (arith, nat_tests)

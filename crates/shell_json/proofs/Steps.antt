@@ -9,7 +9,7 @@ use Rattle.shell_json.specs.Cell.{and_then}
 use Rattle.shell_json.specs.Rows.{after, row_after, rows_after}
 
 -- a value that is left is before those after it
-item_left : (vs : List Value) (i : ℕ) (v : Value) → i < length vs → v ≡ get_or vs i v → items_view (drop i vs) ≡ item (view v) (items_view (drop (i + 1) vs))
+pub item_left : (vs : List Value) (i : ℕ) (v : Value) → i < length vs → v ≡ get_or vs i v → items_view (drop i vs) ≡ item (view v) (items_view (drop (i + 1) vs))
 item_left vs i v h e = at_drop_more items_view vs i v h ∙ ap (λ x. item (view x) (items_view (drop (i + 1) vs))) (sym e)
 
 after_both : {R : Type 0} (front : List R) (r : R) (rest : Result (List R) JsonFault) → after front (after (r ∷ []) rest) ≡ after (front ++ r ∷ []) rest

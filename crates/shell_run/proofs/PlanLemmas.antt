@@ -28,17 +28,7 @@ use Rattle.shell_readers.specs.Tables.{tables_value}
 use Rattle.shell_run.specs.Answer.{shaping}
 use Rattle.shell_run.specs.Plans.{IsPlanFor, IsRunPlan, IsTextPlan, Serves, run_tags}
 use Rattle.shell_run.proofs.Languages.{same_shaping}
-
--- a plan has the direction and the script for which it was made
-direction_of_plan : (font : FaceParts) (languages : List Tag) (d : Direction) (s : Option Script) (features : List Feature) (plan : hb_ot_shape_plan_t hb_ot_any_shaper_t ⊤)
-    → IsPlanned any_kind font languages d s features plan → plan.script_plan.direction ≡ d
-unfolding text_plan
-direction_of_plan font languages d s features plan is = ap (λ (p : hb_script_plan_t ⊤). p.direction) is.script_plan
-
-script_of_plan : (font : FaceParts) (languages : List Tag) (d : Direction) (s : Option Script) (features : List Feature) (plan : hb_ot_shape_plan_t hb_ot_any_shaper_t ⊤)
-    → IsPlanned any_kind font languages d s features plan → plan.script_plan.script ≡ s
-unfolding text_plan
-script_of_plan font languages d s features plan is = ap (λ (p : hb_script_plan_t ⊤). p.script) is.script_plan
+use Rattle.shape_pipeline.proofs.Serving.{direction_of_plan, script_of_plan}
 
 module _ (options : Options) (input : RunInput) where
   plan_for_same : (d d' : Direction) (s s' : Option Script) (plan : hb_ot_shape_plan_t hb_ot_any_shaper_t ⊤) → d ≡ d' → s ≡ s' → IsPlanFor options input d s plan → IsPlanFor options input d' s' plan

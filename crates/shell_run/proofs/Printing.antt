@@ -19,11 +19,10 @@ use Rattle.shell_readers.specs.declared.options.Options.{Options}
 use Rattle.buffer_core.specs.Sides.{Sides, all_glyphs, empty_buffer, state_of, with_added}
 use Rattle.shell_run.specs.Answer.{IsUnshaped, lines_of, lines_of_reading, lines_of_run, printed_line, shaping}
 use Rattle.shell_run.specs.Slices.{requested_lines}
+use Rattle.buffer_glyphs.specs.Lemmas.Origins.{numbers_origins as clusters_again}
+use Rattle.shape_pipeline.proofs.Agreeing.{whole_mask}
 
 -- ---- a glyph is its item and its origin
-
-whole_mask : (m : ℕ) → without_flags m + bit_and m 7 ≡ m
-whole_mask m = let low = and_mask m 3 in omega (arith, low)
 
 glyph_again : (g : hb_glyph_info_t) → glyph_of (item_of g) (origin_of g) ≡ g
 glyph_again g = rw (whole_mask g.mask) refl
@@ -31,10 +30,6 @@ glyph_again g = rw (whole_mask g.mask) refl
 glyphs_again : (gs : List hb_glyph_info_t) → glyphs_of (strip gs) (origins gs) ≡ gs
 glyphs_again [] = refl
 glyphs_again (g ∷ gs) = rw (glyph_again g, glyphs_again gs) refl
-
-clusters_again : (gs : List hb_glyph_info_t) → numbers (origins gs) ≡ clusters gs
-clusters_again [] = refl
-clusters_again (g ∷ gs) = rw (clusters_again gs) refl
 
 -- ---- the lines
 

@@ -19,15 +19,12 @@ use Rattle.font_bytes.specs.Records.{records}
 use Rattle.font_bytes.specs.Results.{and_then}
 use Rattle.font_bytes.specs.Words.{fits}
 use Rattle.font_bytes.proofs.Recorded.{records_end}
+use Rattle.buffer_facts.proofs.Truth.{true_or_false as either}
 
 -- ---- texts
 
 pub is_text : (bs : List ℕ) → IsUtf8 bs → is_utf8 bs ≡ true
 is_text bs h = is_utf8-from_IsUtf8 bs h
-
-either : (b : Bool) → (b ≡ true) ⊎ (b ≡ false)
-either true = inl refl
-either false = inr refl
 
 pub is_no_text : (bs : List ℕ) → ¬ IsUtf8 bs → is_utf8 bs ≡ false
 is_no_text bs h = elim (either (is_utf8 bs)) [ inl e ↦ absurd (h (IsUtf8-from_is_utf8 bs e)) | inr e ↦ e ]

@@ -30,6 +30,7 @@ use Rattle.buffer_unicode.specs.declared.rows.UniversalRow.{UniversalRow}
 use Rattle.buffer_unicode.specs.declared.rows.ThaiRow.{ThaiRow}
 use Rattle.shell_tables_json.specs.Unicode.{tables_keys}
 use Rattle.shell_tables_json.specs.Split.{ReadTablesSplitCharacters}
+use Rattle.buffer_unicode_tables.proofs.Characters.{found_if, below, scalar_syllable as no_syllable}
 
 -- what a step gave, and what the next made of it
 record AreSteps {A B : Type 0} (a : Result A JsonFault) (next : A → Result B JsonFault) (b : B) : Type 0 where
@@ -96,21 +97,9 @@ object_if : (b : Bool) (a : Result Tables JsonFault) (t : Tables) → (if b then
 object_if true a t e = e
 object_if false a t e = cc
 
-found_if : (b : Bool) (r : Split) (rs : List Split) (u : ℕ) → (r.whole == u) ≡ b → scalar r.whole ≡ true → scalar u ≡ false → split_in rs u ≡ None
-    → option_map {U = ℕ × ℕ} (λ (s : Split). (s.first, s.second)) (if b then Some r else find (λ (s : Split). s.whole == u) rs) ≡ None
-found_if true r rs u e fits n later = let same : r.whole ≡ u = eqb-true r.whole u e in let there : scalar u ≡ true = ap scalar (sym same) ∙ fits in cc
-found_if false r rs u e fits n later = later
-
 none_found : (rows : List Split) (u : ℕ) → list_all (λ (r : Split). scalar r.whole) rows ≡ true → scalar u ≡ false → split_in rows u ≡ None
 none_found [] u h n = refl
 none_found (r ∷ rs) u h n = let parts = and_parts (scalar r.whole) (list_all (λ (r : Split). scalar r.whole) rs) h in found_if (r.whole == u) r rs u refl parts.0 n (none_found rs u parts.1 n)
-
-below : (u : ℕ) → u < 44032 + 11172 → u < 55296
-below u l = omega (arith, l)
-
-no_syllable : (u : ℕ) (b : Bool) → is_syllable u ≡ b → scalar u ≡ false → is_syllable u ≡ false
-no_syllable u true e n = let there : scalar u ≡ true = low_scalar u (below u (among_bounds 44032 11172 u e).1) in cc
-no_syllable u false e n = e
 
 -- where all keys are read, the decompositions are those of their key
 parts_read : {P C M V X J I U T : Type 0} (mk : List Split → P → C → M → V → X → J → I → U → T → Tables) → ((s : List Split) (pairs : P) (classes : C) (mirrored : M) (vertical : V) (pictographic : X) (joining : J) (indic : I) (universal : U) (thai : T) → (mk s pairs classes mirrored vertical pictographic joining indic universal thai).splits ≡ s)

@@ -16,6 +16,7 @@ use Rattle.serde_json.specs.Data.{Data, Items, item}
 use Rattle.buffer_tags.specs.declared.language_table.LanguageRow.{LanguageRow}
 use Rattle.buffer_tags.specs.LanguageRows.{row_text, is_before, TextsRise}
 use Rattle.shell_tables_json.specs.Languages.{Language, few_tags, item_count, language, language_in, languages_in_order, tags_in}
+use Rattle.shell_json.proofs.Steps.{item_left as items_step}
 
 -- ---- tags
 
@@ -66,11 +67,6 @@ after_both xs ys (Err e) = refl
 pub row_pushed : (rows : List LanguageRow) (r : LanguageRow) (rest : Result (List Language) JsonFault)
     → after (map language_in (rows ++ r ∷ [])) rest ≡ after (map language_in rows) (after (language_in r ∷ []) rest)
 row_pushed rows r rest = rw (languages_pushed rows r) (after_both (map language_in rows) (language_in r ∷ []) rest)
-
-items_step : (vs : List Value) (i : ℕ) (v : Value) → i < length vs → v ≡ get_or vs i v → items_view (drop i vs) ≡ item (view v) (items_view (drop (i + 1) vs))
-items_step [] i v h e = absurd (omega (arith, h))
-items_step (x ∷ vs) zero v h e = ap (λ w. item (view w) (items_view vs)) (sym e)
-items_step (x ∷ vs) (suc i) v h e = let low : i < length vs = omega (arith, h) in rw add-one (rw add-one at (items_step vs i v low e))
 
 one_taken : (row : Data → Result Language JsonFault) (before : Option (List ℕ)) (d : Data) (ds : Items) (l : Language) → row d ≡ Ok l → is_above (slice_cmp nat_cmp) before l.0 ≡ true
     → rows_after (is_above (slice_cmp nat_cmp)) (λ x. x.0) row before (item d ds) ≡ after (l ∷ []) (rows_after (is_above (slice_cmp nat_cmp)) (λ x. x.0) row (Some l.0) ds)

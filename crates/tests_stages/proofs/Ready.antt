@@ -14,14 +14,10 @@ use Rattle.buffer_glyphs.specs.Rewriting.{Arrangement, eventless_arrangement}
 use Rattle.buffer_stages.specs.Appending.{AppendsArrangement}
 use Rattle.buffer_stages.specs.Rearranged.{Rearranges}
 use Rattle.buffer_stages.specs.Lemmas.Written.{refilled_whole}
+use Rattle.buffer_facts.proofs.Lists.{length_set}
 
 pub unchanged : (start end : ℕ) (s : Sides) → IsReady s → Rearranges (λ (run : List Item). eventless_arrangement run) start end s s
 unchanged start end s ready front run rest e len upto = record { items = e; happened = refl; frame = refl; ready = ready }
-
-length_set : {X : Type 0} (xs : List X) (i : ℕ) (x : X) → length (slice_set xs i x) ≡ length xs
-length_set [] i x = refl
-length_set (y ∷ xs) zero x = refl
-length_set (y ∷ xs) (suc i) x = ap suc (length_set xs i x)
 
 pub written_ready : (i : ℕ) (g : hb_glyph_info_t) (s t : Sides) → IsReady s → t ≡ with_glyph_ahead i g s → IsReady t
 written_ready i g s t ready is =

@@ -17,6 +17,7 @@ use Rattle.buffer_glyphs.specs.Lemmas.Ends.{from_first, to_last}
 use Rattle.buffer_glyphs.specs.Lemmas.Parts.{Stands, stands_self}
 use Rattle.buffer_glyphs.specs.Lemmas.Merges.{outside, chain_across, chain_left, chain_right, stands_chain, map_alike, merge_is_join, merged_at_brings}
 use Rattle.buffer_glyphs.specs.Lemmas.Numbers.{Has, has_here, has_more, has_cases, has_left, has_right, has_either, has_drop, has_map, has_last_from}
+use Rattle.buffer_facts.proofs.Truth.{neither_true as or_none}
 
 pub no_first : (ns : List ℕ) → first_of ns ≡ None → ns ≡ []
 no_first [] e = refl
@@ -127,10 +128,6 @@ back_differs falls n k [] o off h = cc
 back_differs falls n k (q ∷ qs) o off h =
     let after = from_first (Stands falls) (stands_self falls) n k (q ∷ qs) o.0 (has_more n k (q ∷ qs) h) in
     (after, λ same. not_number (Some q) q n refl off (stands_both falls q n (let later = from_first (Stands falls) (stands_self falls) q k qs o.1.0 h in subst (Stands falls q) same later) o.0.0))
-
-or_none : (s t : Bool) → (s || t) ≡ false → (s ≡ false) × (t ≡ false)
-or_none true t e = cc
-or_none false t e = (refl, e)
 
 without_united : (front : List ℕ) (f : ℕ → ℕ) (n : ℕ) (back : List ℕ) → numbers_without (length front) (map f (front ++ n ∷ back)) ≡ map f front ++ map f back
 without_united front f n back = without_map f (length front) (front ++ n ∷ back) ∙ ap (map f) (rest_of front n back) ∙ map-append f front back

@@ -15,16 +15,13 @@ use Rattle.buffer_glyphs.specs.Deleting.{DeletionSides, glyphs_handed_after, gly
 use Rattle.buffer_glyphs.specs.Laws.{FlagsAreHandedOn}
 use Rattle.buffer_glyphs.specs.Lemmas.Glyphs.{flags_set, without_flags_set}
 use Rattle.buffer_glyphs.specs.Lemmas.Origins.{map_turned, numbers_origins}
+use Rattle.buffer_facts.proofs.Lists.{map_kept as all_kept}
 
 -- ---- the first and the last of a list changed
 
 pub first_kept : {X Y : Type 0} (v : X → Y) (f : X → X) (xs : List X) → ((x : X) → v (f x) ≡ v x) → map v (with_first_changed f xs) ≡ map v xs
 first_kept v f [] same = refl
 first_kept v f (x ∷ xs) same = ap (λ y. y ∷ map v xs) (same x)
-
-all_kept : {X Y : Type 0} (v : X → Y) (f : X → X) (xs : List X) → ((x : X) → v (f x) ≡ v x) → map v (map f xs) ≡ map v xs
-all_kept v f [] same = refl
-all_kept v f (x ∷ xs) same = rw (same x, all_kept v f xs same) refl
 
 pub last_kept : {X Y : Type 0} (v : X → Y) (f : X → X) (xs : List X) → ((x : X) → v (f x) ≡ v x) → map v (with_last_changed f xs) ≡ map v xs
 last_kept v f xs same =

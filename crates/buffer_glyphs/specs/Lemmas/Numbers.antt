@@ -8,22 +8,11 @@ use Rattle.std.proofs.lemmas.List.Sorted.{list_any-IsPermutation, IsPermutation-
 use Rattle.buffer_glyphs.specs.Parts.{first_of, last_of, last_from}
 use Rattle.buffer_glyphs.specs.Order.{has_number, BringsNone}
 use Rattle.buffer_glyphs.specs.Lemmas.Drawn.{IsDrawn, nothing, past, kept}
+use Rattle.buffer_facts.proofs.Truth.{or_first as or_left, or_second as or_right, either_true as or_cases}
 
 -- a number occurs in a list
 abbrev pub Has : List ℕ → ℕ → Type 0
 Has ns n = IsTrue (has_number ns n)
-
-or_left : (s t : Bool) → s ≡ true → (s || t) ≡ true
-or_left true t e = refl
-or_left false t e = cc
-
-or_right : (s t : Bool) → t ≡ true → (s || t) ≡ true
-or_right true t e = refl
-or_right false t e = e
-
-or_cases : (s t : Bool) → (s || t) ≡ true → (s ≡ true) ⊎ (t ≡ true)
-or_cases true t e = inl refl
-or_cases false t e = inr e
 
 pub has_here : (n : ℕ) (ns : List ℕ) → Has (n ∷ ns) n
 has_here n ns = or_left (n == n) (has_number ns n) (grind (arith, common_steps))

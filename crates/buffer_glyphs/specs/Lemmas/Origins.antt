@@ -18,6 +18,7 @@ use Rattle.buffer_glyphs.specs.Lemmas.Glyphs.{cluster_in_cluster, flags_in_clust
 use Rattle.buffer_glyphs.specs.Lemmas.Replacements.{replaced_seen, replaced_alike}
 use Rattle.std.proofs.lemmas.List.Sums.{fold-append}
 use Rattle.buffer_glyphs.specs.Events.{Event, origins_after_event, origins_after}
+use Rattle.buffer_facts.proofs.Lists.{map_kept}
 
 -- ---- a part of a list that changes
 
@@ -32,10 +33,6 @@ max_is from to = grind (arith, nat_tests, common_steps)
 
 pub cut_in_three : {X : Type 0} (from to : ℕ) (xs : List X) → take from xs ++ slice_range xs from to ++ drop (max from to) xs ≡ xs
 cut_in_three from to xs = ap (λ n. take from xs ++ slice_range xs from to ++ drop n xs) (max_is from to) ∙ cut_from from (to - from) xs
-
-map_kept : {X Y : Type 0} (v : X → Y) (f : X → X) (xs : List X) → ((x : X) → v (f x) ≡ v x) → map v (map f xs) ≡ map v xs
-map_kept v f [] same = refl
-map_kept v f (x ∷ xs) same = rw (same x, map_kept v f xs same) refl
 
 pub map_turned : {X Y : Type 0} (v : X → Y) (f : X → X) (h : Y → Y) (xs : List X) → ((x : X) → v (f x) ≡ h (v x)) → map v (map f xs) ≡ map h (map v xs)
 map_turned v f h [] same = refl

@@ -12,6 +12,7 @@ use Rattle.buffer_glyphs.specs.Origins.{Span, is_seam, spans_from, spans, picked
 use Rattle.buffer_glyphs.specs.Events.{StaysInSpans}
 use Rattle.buffer_glyphs.specs.Lemmas.Numbers.{Has, has_here, has_more}
 use Rattle.buffer_glyphs.specs.Lemmas.Merges.{merged_in}
+use Rattle.buffer_facts.proofs.Truth.{first_true as and_first, second_true as and_second}
 
 -- what the merges of spans make of numbers
 abbrev pub spans_united : ℕ → List Span → List ℕ → List ℕ
@@ -124,14 +125,6 @@ chain_same at low (suc d) ms h x y at_low at_high =
     let next : at + (low + d + 1) ≡ at + (low + suc d) = omega arith in
     let w = got_before ms (at + (low + d)) y (ap (slice_get ms) there ∙ at_high) in
     chain_same at low d ms (λ t l r. h t l (omega (arith, r))) x w.0 at_low w.1 ∙ h (low + d) (omega arith) (omega arith) w.0 y w.1 (ap (slice_get ms) next ∙ at_high)
-
-and_first : (s t : Bool) → (s && t) ≡ true → s ≡ true
-and_first true t e = refl
-and_first false t e = cc
-
-and_second : (s t : Bool) → (s && t) ≡ true → t ≡ true
-and_second true t e = e
-and_second false t e = cc
 
 all_got : (q : ℕ → Bool) (xs : List ℕ) (i x : ℕ) → list_all q xs ≡ true → slice_get xs i ≡ Some x → q x ≡ true
 all_got q [] i x all e = cc

@@ -19,6 +19,7 @@ use Rattle.buffer_glyphs.specs.Lemmas.Glyphs.{merged_at_beyond, range_clusters, 
 use Rattle.buffer_lists.specs.Groups.{group_length}
 use Rattle.buffer_lists.specs.Turning.{Turning, range_reversed, glyphs_merged_if, is_marked_if, beside_if, first_turned, group_turned, turning_at, all_turned, turning_of}
 use Rattle.buffer_glyphs.specs.Lemmas.EventParts.{map-reverse}
+use Rattle.buffer_facts.proofs.Truth.{or_false}
 
 pub turned_put : {X : Type 0} (start end : ℕ) (xs range : List X) → start ≤ end → range ≡ reverse (slice_range xs start end) → put_mid start (end - start) xs range ≡ range_reversed start end xs
 turned_put start end xs range le e =
@@ -158,10 +159,6 @@ group_ordered false level start end gs mid new le m n asked mono o = cc
 group_ordered true level start end gs mid new le m n asked mono o =
     let P : List ℕ → Type 0 = IsOrdered in
     subst P (sym (ap clusters n ∙ clusters_part level start end gs mid mono le m)) (order_merged level start end gs mid le m o)
-
-pub or_false : (b : Bool) → (b || false) ≡ b
-or_false true = refl
-or_false false = refl
 
 -- where no glyph is left to be walked, all stays
 idle : (merge : Bool) (level : BufferClusterLevel) (p : Glyph → Glyph → Bool) (gs : List Glyph) (ps pa : List Position) (m : Bool)

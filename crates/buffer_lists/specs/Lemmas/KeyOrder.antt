@@ -10,6 +10,8 @@ use Rattle.std.proofs.lemmas.List.Elements.{All-nil, All-cons, All-head, All-tai
 use Rattle.std.proofs.lemmas.List.Sorted.{IsPermutation-refl, IsPermutation-sym, IsPermutation-cons, IsPermutation-trans, IsPermutation-middle, IsPermutation-append_left, All-permutation, length_permutation}
 use Rattle.std.proofs.Math.Seq.{take-append_seam}
 use Rattle.buffer_rows.specs.KeyOrder.{of_key, by_key, key_bound, key_order}
+use Rattle.buffer_facts.proofs.Lists.{empty_by_length as no_length}
+use Rattle.buffer_rows.proofs.StableSort.{empty as none_by_key}
 
 -- what holds of each element holds of each in the order by a key
 pub all_by_key : {X : Type 0} (P : X → Type 0) (key : X → ℕ) (n : ℕ) (xs : List X) → All P xs → All P (by_key key n xs)
@@ -48,10 +50,6 @@ one_more key (suc n) x xs lt = elim (cases_eq (key x) n) [
       let off : (key x == n) ≡ false = ne_eqb (key x) n ne in
       rw off (IsPermutation-append_left (of_key key n xs) (x ∷ by_key key n xs) (by_key key n (x ∷ xs)) (one_more key n x xs (omega arith)))
 ]
-
-none_by_key : {X : Type 0} (key : X → ℕ) (n : ℕ) → by_key key n [] ≡ []
-none_by_key key zero = refl
-none_by_key key (suc n) = rw (none_by_key key n) refl
 
 pub by_key_moves : {X : Type 0} (key : X → ℕ) (n : ℕ) (xs : List X) → All (λ x. key x < n) xs → IsPermutation xs (by_key key n xs)
 by_key_moves key n [] h = rw (none_by_key key n) (IsPermutation-refl [])
@@ -167,10 +165,6 @@ parts_apart {X = X} key (suc n) xs ys b =
         let e : key z ≡ n = All-head (λ x. key x ≡ n) z zs same in
         let none = none_under key n ys (subst (λ (m : ℕ). All (λ y. m ≤ key y) ys) e (All-head (λ x. All (λ y. key x ≤ key y) ys) z zs under)) in
         rw (none, append-nil) (sym (append_assoc (by_key key n xs) (z ∷ zs) (of_key key n ys)))
-
-no_length : {X : Type 0} (xs : List X) → length xs ≡ 0 → xs ≡ []
-no_length [] e = refl
-no_length (x ∷ xs) e = absurd (omega arith)
 
 -- those that the test picks stand in front, and are as many: so the order is of them, and then of the others
 pub seam_cuts : {X : Type 0} (key : X → ℕ) (n : ℕ) (p : X → Bool) (xs ys front back : List X) → All (λ x. key x < n) xs → All (λ x. p x ≡ true) xs → All (λ y. p y ≡ false) ys

@@ -9,22 +9,7 @@ use Rattle.buffer_glyphs.specs.Origins.{with_range_changed, picked_elements, wit
 use Rattle.buffer_glyphs.specs.Lemmas.Numbers.{Has, has_cases}
 use Rattle.buffer_glyphs.specs.Lemmas.Origins.{cut_in_three}
 use Rattle.buffer_parts.specs.Breaks.Lossless.{IsPermuting}
-
-or_left : (s t : Bool) → s ≡ true → (s || t) ≡ true
-or_left true t e = refl
-or_left false t e = cc
-
-or_right : (s t : Bool) → t ≡ true → (s || t) ≡ true
-or_right true t e = refl
-or_right false t e = e
-
-pub or_cases : (s t : Bool) → (s || t) ≡ true → (s ≡ true) ⊎ (t ≡ true)
-or_cases true t e = inl refl
-or_cases false t e = inr e
-
-pub both_true : (s t : Bool) → (s && t) ≡ true → (s ≡ true) × (t ≡ true)
-both_true true t e = (refl, e)
-both_true false t e = cc
+use Rattle.buffer_facts.proofs.Truth.{or_first as or_left, or_second as or_right, either_true as or_cases}
 
 pub any_here : {X : Type 0} (p : X → Bool) (x : X) (xs : List X) → p x ≡ true → list_any p (x ∷ xs) ≡ true
 any_here p x xs h = or_left (p x) (list_any p xs) h

@@ -13,9 +13,9 @@ use Rattle.buffer_glyphs.specs.Lemmas.Numbers.{Has, MayHave, has_here, has_more,
 use Rattle.buffer_glyphs.specs.Lemmas.Drawn.{last_more}
 use Rattle.buffer_glyphs.specs.Lemmas.Handed.{last_fixed}
 use Rattle.buffer_glyphs.specs.Lemmas.Deletions.{last_is}
-use Rattle.buffer_parts.proofs.BreakLemmas.Flags.{equal_test, test_equal}
 use Rattle.buffer_stages.specs.Lemmas.Nested.{numbers_both}
 use Rattle.buffer_parts.specs.Lemmas.Counts.{counted_numbers as count_numbers}
+use Rattle.buffer_facts.proofs.Numbers.{same_by_test as equal_test, test_of_same as test_equal}
 
 -- no origin has the cluster
 abbrev pub Lacks : ℕ → List Origin → Type 0

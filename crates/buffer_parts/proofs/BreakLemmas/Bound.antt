@@ -15,12 +15,13 @@ use Rattle.buffer_parts.specs.Breaks.Unsafe.{is_unsafe_of, has_unsafe_of, IsUnsa
 use Rattle.buffer_parts.specs.Breaks.Bound.{Crosses, merged_span, requested_span}
 use Rattle.buffer_parts.specs.Breaks.Laws.{BoundIsUnsafe}
 use Rattle.buffer_parts.proofs.BreakLemmas.Any.{any_here, any_more, any_left, any_right}
-use Rattle.buffer_parts.proofs.BreakLemmas.Flags.{equal_test, of_unsafe, unsafe_added}
+use Rattle.buffer_parts.proofs.BreakLemmas.Flags.{of_unsafe, unsafe_added}
 use Rattle.buffer_parts.proofs.BreakLemmas.Merged.{merged_again, replaced_brings, replacing_stays, merged_ordered}
 use Rattle.buffer_parts.proofs.BreakLemmas.Handed.{handed_there}
 use Rattle.buffer_parts.proofs.BreakLemmas.Events.{arranged_stays, arranged_brings}
 use Rattle.buffer_glyphs.specs.Lemmas.EventParts.{merged_brings}
 use Rattle.buffer_stages.specs.Lemmas.Nested.{merged_length as length_merged}
+use Rattle.buffer_facts.proofs.Numbers.{same_by_test as equal_test}
 
 least_below : (ns : List ℕ) (n : ℕ) → Has ns n → least_number ns ≤ n
 least_below [] n h = cc

@@ -15,7 +15,7 @@ use Rattle.buffer_glyphs.specs.Lemmas.Origins.{cut_in_three}
 use Rattle.buffer_parts.specs.Breaks.Unsafe.{is_unsafe_of, has_unsafe_of}
 use Rattle.buffer_parts.specs.Breaks.Concat.{SameButConcat}
 use Rattle.buffer_parts.specs.Breaks.Laws.{ConcatIsApart}
-use Rattle.buffer_parts.proofs.BreakLemmas.Flags.{and_or}
+use Rattle.buffer_facts.proofs.Bits.{and_of_or as and_or}
 
 -- ---- one origin
 

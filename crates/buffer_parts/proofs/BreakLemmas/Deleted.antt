@@ -16,11 +16,13 @@ use Rattle.buffer_glyphs.specs.Lemmas.Deletions.{no_last, last_is}
 use Rattle.buffer_glyphs.specs.Lemmas.Drawn.{last_more}
 use Rattle.buffer_glyphs.specs.Lemmas.Ends.{from_has, from_first, to_last}
 use Rattle.buffer_parts.specs.Breaks.Unsafe.{is_unsafe_of, has_unsafe_of}
-use Rattle.buffer_parts.proofs.BreakLemmas.Any.{both_true, any_here, any_more, any_cases, any_left, any_right, any_either, any_changed}
-use Rattle.buffer_parts.proofs.BreakLemmas.Flags.{equal_test, test_equal, and_true, unsafe_of, of_unsafe, outside_stays}
+use Rattle.buffer_parts.proofs.BreakLemmas.Any.{any_here, any_more, any_cases, any_left, any_right, any_either, any_changed}
+use Rattle.buffer_parts.proofs.BreakLemmas.Flags.{unsafe_of, of_unsafe, outside_stays}
 use Rattle.buffer_parts.proofs.BreakLemmas.Handed.{handing_stays, handing_gives, IsBeside, seam_beside, beside_range, first_same}
 use Rattle.buffer_parts.proofs.BreakLemmas.Merged.{united_stays, united_ordered, merged_again}
 use Rattle.buffer_stages.specs.Lemmas.Nested.{numbers_both}
+use Rattle.buffer_facts.proofs.Numbers.{some_is, same_by_test as equal_test, test_of_same as test_equal}
+use Rattle.buffer_facts.proofs.Truth.{both_true, and_true}
 
 -- an unsafe origin of another cluster than the one at the end
 all_of : (c p : ℕ) (os : List Origin) → list_all (λ (k : Origin). k.cluster == p) os ≡ true → has_unsafe_of c os ≡ true → c ≡ p
@@ -61,9 +63,6 @@ all_same p (q ∷ qs) same = and_true (q.cluster == p) (list_all (λ (k : Origin
 in_rest : (p : ℕ) (x q : Origin) (qs : List Origin) → last_of (numbers (q ∷ qs)) ≡ Some p → (last_of (numbers qs) ≡ Some p → Has (numbers (end_cast p x qs)) p → ⊥) → Has (numbers (end_cast p x qs)) p → ⊥
 in_rest p x q [] last rest there = cc
 in_rest p x q (r ∷ rs) last rest there = rest (sym (last_more q.cluster r.cluster (numbers rs)) ∙ last) there
-
-pub some_is : (m n : ℕ) → Some m ≡ Some n → m ≡ n
-some_is m n e = cc
 
 -- where clusters fall, none of the last cluster is left as the end is moved to another
 pub none_left : (p : ℕ) (x : Origin) (qs : List Origin) → IsChain (λ m n. n ≤ m) (numbers qs) → last_of (numbers qs) ≡ Some p → x.cluster ≢ p → Has (numbers (end_cast p x qs)) p → ⊥

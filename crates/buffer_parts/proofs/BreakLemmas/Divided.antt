@@ -27,15 +27,15 @@ use Rattle.buffer_parts.specs.Breaks.Lossless.{AreLossless}
 use Rattle.buffer_parts.specs.Breaks.Bound.{Crosses}
 use Rattle.buffer_parts.specs.Breaks.Sides.{IsBounded, AreBounded, AreCutAt}
 use Rattle.buffer_parts.specs.Breaks.SideLaws.{FirstChangesAlone, SecondChangesAlone, BothChangeAlone, BothChangeBackward, WholeEventsDivide}
-use Rattle.buffer_parts.proofs.BreakLemmas.Flags.{equal_test, test_equal}
 use Rattle.buffer_parts.proofs.BreakLemmas.Handed.{handed_there}
 use Rattle.buffer_parts.proofs.BreakLemmas.Events.{unsafe_stays, safe_breaks_stay, lossless_in_turn}
 use Rattle.buffer_parts.proofs.BreakLemmas.Bound.{united_absent}
-use Rattle.buffer_parts.proofs.BreakLemmas.Deleted.{some_is, none_left}
+use Rattle.buffer_parts.proofs.BreakLemmas.Deleted.{none_left}
 use Rattle.buffer_parts.proofs.BreakLemmas.Apart.{Lacks, AreApart, differs, last_there}
 use Rattle.buffer_parts.proofs.BreakLemmas.First.{DeletesBeside, event_first}
 use Rattle.buffer_parts.proofs.BreakLemmas.Last.{CoversFirst, event_last}
 use Rattle.buffer_stages.specs.Lemmas.Nested.{numbers_both}
+use Rattle.buffer_facts.proofs.Numbers.{same_by_test as equal_test, test_of_same as test_equal, some_is}
 
 -- ---- cuts
 

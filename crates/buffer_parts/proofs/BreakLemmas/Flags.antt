@@ -6,29 +6,11 @@ use Rattle.std.proofs.lemmas.Nat.{le_or_l, or_comm}
 use Rattle.std.proofs.lemmas.Nat.Bits.{bit_at_and, bit_at_or, same_from_bits}
 use Rattle.buffer_glyphs.specs.Origins.{Origin, flags_added, added_outside, is_unsafe}
 use Rattle.buffer_parts.specs.Breaks.Unsafe.{is_unsafe_of}
-use Rattle.buffer_parts.proofs.BreakLemmas.Any.{both_true}
-
-pub and_true : (s t : Bool) → s ≡ true → t ≡ true → (s && t) ≡ true
-and_true true t e f = f
-and_true false t e f = cc
-
-pub equal_test : (m n : ℕ) → (m == n) ≡ true → m ≡ n
-equal_test m n e = grind (arith, common_steps, e)
-
-pub test_equal : (m n : ℕ) → m ≡ n → (m == n) ≡ true
-test_equal m n e = grind (arith, common_steps, e)
+use Rattle.buffer_facts.proofs.Numbers.{same_by_test as equal_test, test_of_same as test_equal}
+use Rattle.buffer_facts.proofs.Truth.{and_true, both_true}
+use Rattle.buffer_facts.proofs.Bits.{and_of_or as and_or}
 
 -- ---- bits
-
-pub and_or : (n a m : ℕ) → bit_and (bit_or a m) n ≡ bit_or (bit_and a n) (bit_and m n)
-and_or n a m =
-    same_from_bits (bit_and (bit_or a m) n) (bit_or (bit_and a n) (bit_and m n)) (λ i.
-    let one = bit_at_and (bit_or a m) n i in
-    let two = bit_at_or a m i in
-    let three = bit_at_or (bit_and a n) (bit_and m n) i in
-    let four = bit_at_and a n i in
-    let five = bit_at_and m n i in
-    omega (arith, one, two, three, four, five))
 
 above_none : (n : ℕ) → not (n == 0) ≡ true → 0 < n
 above_none zero h = cc

@@ -14,11 +14,13 @@ use Rattle.buffer_glyphs.specs.Lemmas.Ends.{from_first, to_last}
 use Rattle.buffer_glyphs.specs.Lemmas.Merges.{chain_left, chain_right, chain_across}
 use Rattle.buffer_glyphs.specs.Lemmas.Handed.{numbers_handed_if}
 use Rattle.buffer_parts.specs.Breaks.Unsafe.{is_unsafe_of, has_unsafe_of}
-use Rattle.buffer_parts.proofs.BreakLemmas.Any.{both_true, any_here, any_more, any_cases, any_left, any_right, any_halves, any_mapped}
-use Rattle.buffer_parts.proofs.BreakLemmas.Flags.{equal_test, unsafe_kept, unsafe_added, unsafe_of, of_unsafe, added_stays}
+use Rattle.buffer_parts.proofs.BreakLemmas.Any.{any_here, any_more, any_cases, any_left, any_right, any_halves, any_mapped}
+use Rattle.buffer_parts.proofs.BreakLemmas.Flags.{unsafe_kept, unsafe_added, unsafe_of, of_unsafe, added_stays}
 use Rattle.buffer_parts.proofs.BreakLemmas.Apart.{lasting}
 use Rattle.buffer_glyphs.proofs.Joined.{order_second as ordered_right}
 use Rattle.buffer_stages.specs.Lemmas.Nested.{numbers_both}
+use Rattle.buffer_facts.proofs.Numbers.{some_is as some_number, same_by_test as equal_test}
+use Rattle.buffer_facts.proofs.Truth.{both_true}
 
 -- ---- what is unsafe stays so
 
@@ -65,9 +67,6 @@ unsafe_among c (o ∷ gone) h = by_test (is_unsafe_of c o) refl (λ later. unsaf
     by_test : (t : Bool) → is_unsafe_of c o ≡ t → (has_unsafe_of c gone ≡ true → is_unsafe (unsafe_flags c gone) ≡ true) → is_unsafe (if t then bit_or o.flags (unsafe_flags c gone) else unsafe_flags c gone) ≡ true
     by_test true e rest = unsafe_kept o.flags (unsafe_flags c gone) (both_true (o.cluster == c) (is_unsafe o.flags) e).1
     by_test false e rest = elim (any_cases (is_unsafe_of c) o gone h) [ inl here ↦ let no : true ≡ false = sym here ∙ e in cc | inr later ↦ rest later ]
-
-some_number : (m n : ℕ) → Some m ≡ Some n → m ≡ n
-some_number m n e = cc
 
 last_gets : (c bits : ℕ) (os : List Origin) → is_unsafe bits ≡ true → last_of (numbers os) ≡ Some c → has_unsafe_of c (with_last_changed (flags_added bits) os) ≡ true
 last_gets c bits [] some e = cc

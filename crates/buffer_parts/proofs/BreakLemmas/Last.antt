@@ -19,6 +19,7 @@ use Rattle.buffer_glyphs.specs.Lemmas.EventParts.{merged_brings}
 use Rattle.buffer_stages.specs.Lemmas.Nested.{merged_length as length_merged, numbers_both}
 use Rattle.buffer_parts.specs.Lemmas.Counts.{counted_numbers as count_numbers}
 use Rattle.buffer_glyphs.specs.Lemmas.Merges.{has_in_range as range_has}
+use Rattle.buffer_facts.proofs.Truth.{or_true}
 
 -- ---- ranges
 
@@ -126,10 +127,6 @@ abbrev pub IsCovered : List Origin → List Origin → Origin → List Origin �
 IsCovered [] front x back = Unit {0}
 IsCovered (o ∷ os) (f ∷ front) x back = Unit {0}
 IsCovered (o ∷ os) [] x back = is_number (first_of (numbers back)) x.cluster ≡ true
-
-or_true : (s : Bool) → (s || true) ≡ true
-or_true true = refl
-or_true false = refl
 
 alone_last : (level : BufferClusterLevel) (p : Option ℕ) (os : List Origin) (f : Origin) (front : List Origin) (x : Origin) (back : List Origin) → (p ≡ None → ⊥) → MayLack p os
     → alone_deleted level p (os ++ f ∷ front) x back ≡ os ++ alone_deleted level p (f ∷ front) x back

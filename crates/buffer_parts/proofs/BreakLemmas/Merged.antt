@@ -15,10 +15,11 @@ use Rattle.buffer_glyphs.specs.Lemmas.Merges.{merge_unites, merge_joins_ordered,
 use Rattle.buffer_glyphs.specs.Lemmas.Parts.{stays_ordered}
 use Rattle.buffer_parts.specs.Breaks.Unsafe.{is_unsafe_of, has_unsafe_of}
 use Rattle.buffer_parts.proofs.BreakLemmas.Any.{any_cases, any_here, any_more, any_left, any_right, any_halves, any_mapped, any_changed}
-use Rattle.buffer_parts.proofs.BreakLemmas.Flags.{test_equal, unsafe_of, added_stays, outside_stays}
+use Rattle.buffer_parts.proofs.BreakLemmas.Flags.{unsafe_of, added_stays, outside_stays}
 use Rattle.buffer_parts.proofs.BreakLemmas.Handed.{handing_stays, handing_gives, unsafe_has, replaced_beside}
 use Rattle.buffer_glyphs.specs.Lemmas.EventParts.{spans_bring, merged_brings}
 use Rattle.buffer_stages.specs.Lemmas.Nested.{merged_length as length_merged}
+use Rattle.buffer_facts.proofs.Numbers.{test_of_same as test_equal}
 
 -- ---- flagged ranges
 

@@ -9,7 +9,9 @@ use Rattle.buffer_glyphs.specs.Lemmas.EventParts.{numbers_spread}
 use Rattle.buffer_parts.specs.Breaks.Unsafe.{is_unsafe_of, has_unsafe_of, HaveNoTatweel}
 use Rattle.buffer_parts.specs.Breaks.Laws.{SpreadShowsUnsafe}
 use Rattle.buffer_parts.proofs.BreakLemmas.Any.{any_here, any_more, any_cases}
-use Rattle.buffer_parts.proofs.BreakLemmas.Flags.{equal_test, test_equal, and_true, clear_or, unsafe_kept, unsafe_added, unsafe_of}
+use Rattle.buffer_parts.proofs.BreakLemmas.Flags.{clear_or, unsafe_kept, unsafe_added, unsafe_of}
+use Rattle.buffer_facts.proofs.Numbers.{same_by_test as equal_test, test_of_same as test_equal}
+use Rattle.buffer_facts.proofs.Truth.{and_true}
 
 -- ---- flags as they are settled
 

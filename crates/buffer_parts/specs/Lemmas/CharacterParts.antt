@@ -14,6 +14,8 @@ use Rattle.buffer_glyphs.specs.Lemmas.Parts.{order_drawn, event_keeps_order, kee
 use Rattle.buffer_glyphs.specs.Lemmas.Ends.{joined_alike}
 use Rattle.buffer_parts.specs.CharacterParts.{Union, ends_of, neighbour_union, deletion_union, union_of, part_after_union, part_after_event, part_after, items_left, AreUnited, AreUnitedByEvents}
 use Rattle.buffer_parts.specs.Laws.{EventsAreUnions, NumbersAreParts, PartsRise, PartsAreNoGreater, PartsStay, PartsHaveGlyphs, SlicesAreParts, PartsAreUnited}
+use Rattle.buffer_facts.proofs.Lists.{others_map}
+use Rattle.buffer_glyphs.proofs.Least.{range_order, none_beside, no_numbers, may_left, may_right, is_number_has, no_copies, has_at, doubled_has, removal_is, has_copied, replaced_has_at, replaced_has, copies_have, united_ends, any_of, first_taken}
 
 -- ---- what becomes one
 
@@ -22,9 +24,6 @@ united_down a b x = grind (arith, nat_tests, common_steps)
 
 united_twice : (a b x : ℕ) → united_number (min a b) (max a b) (united_number (min a b) (max a b) x) ≡ united_number (min a b) (max a b) x
 united_twice a b x = grind (arith, nat_tests, common_steps)
-
-united_ends : (a b : ℕ) → united_number (min a b) (max a b) a ≡ united_number (min a b) (max a b) b
-united_ends a b = grind (arith, nat_tests, common_steps)
 
 by_rises : (u : Option Union) (m n : ℕ) → m ≤ n → part_after_union u m ≤ part_after_union u n
 by_rises None m n h = h
@@ -108,40 +107,6 @@ parts_stay (e ∷ es) ns n h =
 
 -- ---- each part keeps an item
 
-has_at : (n at : ℕ) (ns : List ℕ) → Has ns n → Has (take at ns) n ⊎ Has (drop at ns) n
-has_at n at ns h = has_either n (take at ns) (drop at ns) (let P : List ℕ → Type 0 = λ xs. Has xs n in subst P (sym (take-append-drop at ns)) h)
-
-copies_have : (given n : ℕ) → 0 < given → Has (copies given (Some n)) n
-copies_have zero n lt = absurd (omega arith)
-copies_have (suc given) n lt = has_here n (replicate given n)
-
--- copies of the first, in place of some that all equal the first
-has_copied : (given gone n : ℕ) (ns : List ℕ) → 0 < given → (Has (take gone ns) n → first_of ns ≡ Some n) → Has ns n → Has (copies given (first_of ns) ++ drop gone ns) n
-has_copied given gone n ns lt alike h = elim (has_at n gone ns h) [
-  | inl there ↦ has_left n (copies given (first_of ns)) (drop gone ns) (let P : Option ℕ → Type 0 = λ o. Has (copies given o) n in subst P (sym (alike there)) (copies_have given n lt))
-  | inr beyond ↦ has_right n (copies given (first_of ns)) (drop gone ns) beyond
-]
-
-replaced_has_at : (at gone given n : ℕ) (ns rest : List ℕ) → drop at ns ≡ rest → 0 < given → (Has (take gone rest) n → first_of rest ≡ Some n) → Has ns n
-    → Has (take at ns ++ copies given (or (first_of rest) (last_of (take at ns))) ++ drop gone rest) n
-replaced_has_at at gone given n ns [] e lt alike h = elim (has_at n at ns h) [
-  | inl front ↦ has_left n (take at ns ++ copies given (last_of (take at ns))) (drop gone []) (has_left n (take at ns) (copies given (last_of (take at ns))) front)
-  | inr beyond ↦ let none = rw e at beyond in cc
-]
-replaced_has_at at gone given n ns (m ∷ rest) e lt alike h = rw append_assoc (elim (has_at n at ns h) [
-  | inl front ↦ has_left n (take at ns) (replicate given m ++ drop gone (m ∷ rest)) front
-  | inr beyond ↦ has_right n (take at ns) (replicate given m ++ drop gone (m ∷ rest)) (has_copied given gone n (m ∷ rest) lt alike (rw e at beyond))
-])
-
--- items that are all of one part make room for others of it: its number stays
-replaced_has : (at gone given n : ℕ) (ns : List ℕ) → 0 < given → (Has (take gone (drop at ns)) n → first_of (drop at ns) ≡ Some n) → Has ns n → Has (numbers_replaced at gone given ns) n
-replaced_has at gone given n ns lt alike h = rw (← drop-drop gone at ns) (replaced_has_at at gone given n ns (drop at ns) refl lt alike h)
-
-first_taken : (f : ℕ → ℕ) (gone x : ℕ) (ds xs : List ℕ) → take gone ds ≡ x ∷ xs → first_of (map f ds) ≡ Some (f x)
-first_taken f zero x ds xs e = cc
-first_taken f (suc gone) x [] xs e = cc
-first_taken f (suc gone) x (d ∷ ds) xs e = ap (λ ys. first_of (map f ys)) e
-
 -- of a joined range all items are of the part of the first
 range_alike : (falls : Bool) (at gone n : ℕ) (ns s : List ℕ) → take gone (drop at ns) ≡ s → IsInOrder falls s → Has (take gone (drop at (map (part_after_union (ends_of s)) ns))) n → first_of (drop at (map (part_after_union (ends_of s)) ns)) ≡ Some n
 range_alike falls at gone n ns [] e o h =
@@ -157,9 +122,6 @@ range_alike falls at gone n ns (x ∷ xs) e o h =
     let same : f x ≡ n = joined_alike falls x x xs o (has_here x xs) ∙ sym (joined_alike falls x from.0 xs o from.1) ∙ from.2 in
     ap first_of (drop-map f at ns) ∙ first_taken f gone x (drop at ns) xs e ∙ ap Some same
 
-range_order : (falls : Bool) (at gone : ℕ) (ns : List ℕ) → IsInOrder falls ns → IsInOrder falls (take gone (drop at ns))
-range_order falls at gone ns h = order_drawn falls (drawn_take gone (drop at ns)) (order_drawn falls (drawn_drop at ns) h)
-
 given_has : (falls : Bool) (at taken given n : ℕ) (ns : List ℕ) → 0 < given → IsInOrder falls ns → Has ns n → Has (items_left (ReplaceParts at taken given) (map (part_after_event ns (ReplaceParts at taken given)) ns)) (part_after_event ns (ReplaceParts at taken given) n)
 given_has falls at taken given n ns lt o h =
     let wide : at + taken - at ≡ taken = omega arith in
@@ -169,26 +131,6 @@ given_has falls at taken given n ns lt o h =
     replaced_has at taken given (f n) (map f ns) lt
     (range_alike falls at taken (f n) ns s cut (subst (IsInOrder falls) cut (range_order falls at taken ns o)))
     (map_has f n ns h)
-
-any_of : (q : ℕ → Bool) (ns : List ℕ) → list_any q ns ≡ true → (n : ℕ) × Has ns n × (q n ≡ true)
-any_of q [] h = cc
-any_of q (n ∷ ns) h = by_first (q n) refl h (any_of q ns)
-  where
-    by_first : (t : Bool) → q n ≡ t → (t || list_any q ns) ≡ true → (list_any q ns ≡ true → (m : ℕ) × Has ns m × (q m ≡ true)) → (m : ℕ) × Has (n ∷ ns) m × (q m ≡ true)
-    by_first true e k later = (n, has_here n ns, e)
-    by_first false e k later = let found = later k in (found.0, has_more n found.0 ns found.1, found.2)
-
--- those before and after a range of a changed list
-others_map : (f : ℕ → ℕ) (at taken : ℕ) (ns : List ℕ) → take at (map f ns) ++ drop (at + taken) (map f ns) ≡ map f (take at ns ++ drop (at + taken) ns)
-others_map f at taken ns = ap (λ xs. xs ++ drop (at + taken) (map f ns)) (take-map f at ns) ∙ ap (λ xs. map f (take at ns) ++ xs) (drop-map f (at + taken) ns) ∙ sym (map-append f (take at ns) (drop (at + taken) ns))
-
-no_copies : (o : Option ℕ) → copies 0 o ≡ []
-no_copies None = refl
-no_copies (Some n) = refl
-
--- a list of which a range was deleted
-pub removal_is : (at taken : ℕ) (ns : List ℕ) → numbers_replaced at taken 0 ns ≡ take at ns ++ drop (at + taken) ns
-removal_is at taken ns = ap (λ xs. take at ns ++ xs ++ drop (at + taken) ns) (no_copies (or (first_of (drop at ns)) (last_of (take at ns)))) ∙ ap (λ xs. xs ++ drop (at + taken) ns) (append-nil (take at ns))
 
 -- a joined range that shares a part with what stays leaves it an item
 shared_has : (falls : Bool) (at taken n : ℕ) (ns s : List ℕ) → take taken (drop at ns) ≡ s → IsInOrder falls s → list_any (has_number (take at ns ++ drop (at + taken) ns)) s ≡ true → Has ns n
@@ -222,23 +164,9 @@ kept_has : (falls : Bool) (at taken given n : ℕ) (ns : List ℕ) → (0 < give
 kept_has falls at taken zero n ns g o h = elim g [ inl some ↦ absurd (omega arith) | inr shares ↦ removed_has falls at taken n ns shares o h ]
 kept_has falls at taken (suc given) n ns g o h = given_has falls at taken (suc given) n ns (omega arith) o h
 
-doubled_has : (at n : ℕ) (ns : List ℕ) → Has ns n → Has (take at ns ++ copies 2 (first_of (drop at ns)) ++ drop (at + 1) ns) n
-doubled_has at n ns h = rw (append_assoc, ← drop-drop 1 at ns) (elim (has_at n at ns h) [
-  | inl front ↦ has_left n (take at ns) (copies 2 (first_of (drop at ns)) ++ drop 1 (drop at ns)) front
-  | inr beyond ↦ has_right n (take at ns) (copies 2 (first_of (drop at ns)) ++ drop 1 (drop at ns)) (has_copied 2 1 n (drop at ns) (omega arith) (one_alike n (drop at ns)) beyond)
-])
-  where
-    one_alike : (m : ℕ) (ms : List ℕ) → Has (take 1 ms) m → first_of ms ≡ Some m
-    one_alike m [] t = cc
-    one_alike m (d ∷ ds) t = elim (has_cases d m [] t) [ inl e ↦ ap Some e | inr none ↦ cc ]
-
 -- as an item of part n is about to be deleted, no other is left, or some other is of the part that n becomes
 abbrev HasPeer : Option Union → List ℕ → ℕ → Type 0
 HasPeer u others n = (others ≡ []) ⊎ ((p : ℕ) × Has others p × (part_after_union u p ≡ part_after_union u n))
-
-pub is_number_has : (o : Option ℕ) (n : ℕ) (others : List ℕ) → is_number o n ≡ true → MayHave others o → Has others n
-is_number_has None n others e h = cc
-is_number_has (Some m) n others e h = let same : m ≡ n = grind (arith, common_steps, e) in subst (Has others) same h
 
 peer_beside : (before after : Option ℕ) (n : ℕ) (others : List ℕ) → MayHave others before → MayHave others after → (before ≡ None → after ≡ None → others ≡ []) → HasPeer (neighbour_union before after n) others n
 peer_beside (Some p) after n others b a none = inr (p, b, united_ends p n)
@@ -252,17 +180,6 @@ peer_left before after n others b a none = by_sides (is_number before n) (is_num
     by_sides true t e d = inr (n, is_number_has before n others e b, refl)
     by_sides false true e d = inr (n, is_number_has after n others d a, refl)
     by_sides false false e d = peer_beside before after n others b a none
-
-pub may_left : (o : Option ℕ) (xs ys : List ℕ) → MayHave xs o → MayHave (xs ++ ys) o
-may_left None xs ys h = tt
-may_left (Some n) xs ys h = has_left n xs ys h
-
-pub may_right : (o : Option ℕ) (xs ys : List ℕ) → MayHave ys o → MayHave (xs ++ ys) o
-may_right None xs ys h = tt
-may_right (Some n) xs ys h = has_right n xs ys h
-
-pub none_beside : (xs ys : List ℕ) → last_of xs ≡ None → first_of ys ≡ None → xs ++ ys ≡ []
-none_beside xs ys e d = rw (no_last xs e, no_first ys d) refl
 
 peer_at : (at n : ℕ) (ns rest : List ℕ) → drop at ns ≡ n ∷ rest → HasPeer (union_of ns (DeletePart at)) (numbers_without at ns) n
 peer_at at n ns rest e =
@@ -313,10 +230,6 @@ event_has_part : (e : PartEvent) (falls : Bool) (ns : List ℕ) (n : ℕ) → Is
 event_has_part e falls ns n g o some h =
     let same = events_are_unions e ns in
     subst (λ (ms : List ℕ). Has ms (part_after_event ns e n)) (sym same) (left_has e falls ns n g o (λ none. some (same ∙ none)) h)
-
-no_numbers : (ns : List ℕ) → BringsNone [] ns → ns ≡ []
-no_numbers [] h = refl
-no_numbers (n ∷ ns) h = let none = h n (has_here n ns) in cc
 
 pub parts_have_glyphs : PartsHaveGlyphs
 parts_have_glyphs [] falls ns n o g some h = h

@@ -10,10 +10,8 @@ use Rattle.buffer_glyphs.specs.Lemmas.Parts.{Stands, keeps_order, keeps_numbers}
 use Rattle.buffer_glyphs.specs.Lemmas.Ends.{from_has}
 use Rattle.buffer_parts.specs.CharacterParts.{neighbour_union, deletion_union}
 use Rattle.buffer_parts.specs.TextLaws.{DeletionsUniteTheLast, PartsFitText}
-use Rattle.buffer_parts.specs.Lemmas.CharacterParts.{is_number_has, may_left, may_right, none_beside}
-use Rattle.buffer_parts.specs.Lemmas.Least.{keeps_least}
-use Rattle.buffer_parts.specs.Lemmas.Orderly.{in_order}
 use Rattle.buffer_glyphs.specs.Lemmas.Merges.{stands_chain as in_chain, chain_right as chain_rest}
+use Rattle.buffer_glyphs.proofs.Least.{is_number_has, may_left, may_right, none_beside, keeps_least, in_order}
 
 -- neighbours of an item whose part has another are of that part
 abbrev IsOne : (ℕ → ℕ → Type 0) → Type 0

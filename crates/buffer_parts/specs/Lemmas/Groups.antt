@@ -21,12 +21,9 @@ use Rattle.buffer_parts.specs.TextLaws.{OneGroupsMayTurn, MergedGroupsAreOne, Me
 use Rattle.buffer_parts.specs.Lemmas.Orderly.{plain_is_orderly, both_orderly, one_number, orderly_event, arranged_one}
 use Rattle.buffer_parts.specs.Lemmas.CharacterParts.{events_are_unions}
 use Rattle.buffer_glyphs.specs.Lemmas.EventParts.{numbers_arranged}
+use Rattle.buffer_facts.proofs.Truth.{and_true}
 
 -- ---- numbers that are one
-
-and_true : (s t : Bool) → s ≡ true → t ≡ true → (s && t) ≡ true
-and_true true t e f = f
-and_true false t e f = cc
 
 all_is : (n : ℕ) (ms : List ℕ) → ((k : ℕ) → Has ms k → k ≡ n) → list_all (λ m. m == n) ms ≡ true
 all_is n [] h = refl

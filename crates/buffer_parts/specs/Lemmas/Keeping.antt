@@ -16,13 +16,13 @@ use Rattle.buffer_parts.specs.Fits.{FitsText}
 use Rattle.buffer_parts.specs.Counts.{count_after, count_after_event, ligature_deletions, AreBetween}
 use Rattle.buffer_parts.specs.Keeping.{AreKept, AreSliced}
 use Rattle.buffer_parts.specs.KeepingLaws.{KeptInTurn, PlainIsKept, ReplacementsKeepParts, LigaturesKeepParts, KeptEventsHaveParts}
-use Rattle.buffer_parts.specs.Lemmas.Orderly.{plain_is_orderly, both_orderly, orderly_are_parts, orderly_keep_order, in_order}
-use Rattle.buffer_parts.specs.Lemmas.Least.{keeps_least}
+use Rattle.buffer_parts.specs.Lemmas.Orderly.{plain_is_orderly, both_orderly, orderly_are_parts, orderly_keep_order}
 use Rattle.buffer_parts.specs.Lemmas.Slices.{slices_join, slices_share_parts}
 use Rattle.buffer_parts.specs.Lemmas.Turns.{parts_in_turn, giving_in_turn}
 use Rattle.buffer_parts.specs.Lemmas.Counts.{counts_follow, giving_is_giving}
 use Rattle.buffer_parts.specs.Lemmas.Ligatures.{ligatures_are_giving}
 use Rattle.buffer_parts.specs.Lemmas.Deletions.{parts_fit_text}
+use Rattle.buffer_glyphs.proofs.Least.{no_origins, in_order, keeps_least}
 
 -- origins with such clusters
 abbrev as_origins : List ℕ → List Origin
@@ -102,10 +102,6 @@ ligatures_keep_parts how level at end places n total b = record {
   giving = λ falls ns mono count o. ligatures_are_giving how level falls at end places ns mono o (omega (arith, count, total)) b;
   counted = all_removed at 0 0 end places n (omega arith) b (omega (arith, total));
 }
-
-no_origins : (os : List Origin) → numbers os ≡ [] → os ≡ []
-no_origins [] e = refl
-no_origins (o ∷ os) e = cc
 
 pub kept_events_have_parts : KeptEventsHaveParts
 kept_events_have_parts level es before after falls asks os kept mono count o = record {

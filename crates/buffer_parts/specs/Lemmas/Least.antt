@@ -11,22 +11,8 @@ use Rattle.buffer_glyphs.specs.Lemmas.Parts.{keeps_numbers}
 use Rattle.buffer_parts.specs.CharacterParts.{part_after}
 use Rattle.buffer_parts.specs.Laws.{OriginsKeepLeast}
 use Rattle.buffer_parts.specs.Lemmas.CharacterParts.{parts_have_glyphs, parts_are_no_greater}
-use Rattle.buffer_parts.specs.Lemmas.Orderly.{in_order, orderly_are_parts}
-
-pub keeps_least : KeepsLeast
-keeps_least es falls ns m g o l some =
-    let there : Has (after_part_events es ns) (part_after es ns m) = parts_have_glyphs es falls ns m o g some l.among in
-    let low : part_after es ns m ≤ m = parts_are_no_greater es ns m in
-    let high : m ≤ part_after es ns m = l.below (part_after es ns m) (keeps_numbers es ns (part_after es ns m) there) in
-    let same : part_after es ns m ≡ m = omega (arith, low, high) in
-    record {
-      among = subst (Has (after_part_events es ns)) same there;
-      below = λ n h. l.below n (keeps_numbers es ns n h);
-    }
-
-no_origins : (os : List Origin) → numbers os ≡ [] → os ≡ []
-no_origins [] e = refl
-no_origins (o ∷ os) e = cc
+use Rattle.buffer_parts.specs.Lemmas.Orderly.{orderly_are_parts}
+use Rattle.buffer_glyphs.proofs.Least.{no_origins, keeps_least, in_order}
 
 pub orderly_keep_least : OriginsKeepLeast
 orderly_keep_least asks level es falls os m mono h giving o l some =

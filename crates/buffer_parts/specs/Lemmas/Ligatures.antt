@@ -16,9 +16,10 @@ use Rattle.buffer_parts.specs.Orderly.{are_one}
 use Rattle.buffer_parts.specs.CharacterParts.{part_after_event}
 use Rattle.buffer_parts.specs.Counts.{ligature_deletions, AreBetween}
 use Rattle.buffer_parts.specs.CountLaws.{LigaturesAreGiving}
-use Rattle.buffer_parts.specs.Lemmas.Orderly.{one_number, in_order}
-use Rattle.buffer_parts.specs.Lemmas.CharacterParts.{events_are_unions, removal_is}
+use Rattle.buffer_parts.specs.Lemmas.Orderly.{one_number}
+use Rattle.buffer_parts.specs.Lemmas.CharacterParts.{events_are_unions}
 use Rattle.buffer_parts.specs.Lemmas.Groups.{are_one_from, merged_one}
+use Rattle.buffer_glyphs.proofs.Least.{in_order, removal_is}
 
 -- ---- an element that is deleted
 

@@ -17,6 +17,8 @@ use Rattle.buffer_glyphs.specs.Lemmas.Parts.{stays_ordered, keeps_order}
 use Rattle.buffer_glyphs.specs.Lemmas.EventParts.{origins_are_parts, numbers_picked, numbers_arranged, picked_alike as picked_one}
 use Rattle.buffer_parts.specs.Orderly.{are_one, IsOrderlyAt, IsOrderly}
 use Rattle.buffer_parts.specs.Laws.{PlainIsOrderly, OrderlyInTurn, OriginsAreParts, OriginsKeepOrder}
+use Rattle.buffer_facts.proofs.Truth.{first_true as and_first, second_true as and_second}
+use Rattle.buffer_glyphs.proofs.Least.{in_order}
 
 -- ---- plain events, and events one after another
 
@@ -50,14 +52,6 @@ pub orderly_in_turn : OrderlyInTurn
 orderly_in_turn asks level es fs os = (first_orderly asks level es fs os, both_orderly asks level es fs os)
 
 -- ---- an order over numbers that are one
-
-and_first : (s t : Bool) → (s && t) ≡ true → s ≡ true
-and_first true t e = refl
-and_first false t e = cc
-
-and_second : (s t : Bool) → (s && t) ≡ true → t ≡ true
-and_second true t e = e
-and_second false t e = cc
 
 all_same : (n : ℕ) (ms : List ℕ) → list_all (λ m. m == n) ms ≡ true → (k : ℕ) → Has ms k → k ≡ n
 all_same n [] e k h = cc
@@ -110,10 +104,6 @@ orderly_are_parts asks level (e ∷ es) os mono h o =
     let first : numbers mid ≡ after_part_events (parts_of_event level e) (numbers os) = orderly_event asks level os e mono h.0 o in
     let ordered : IsOrdered (numbers mid) = subst IsOrdered (sym first) (stays_ordered (parts_of_event level e) (numbers os) o) in
     orderly_are_parts asks level es mid mono h.1 ordered ∙ ap (after_part_events (parts_of level es)) first ∙ sym (fold-append after_part_event (numbers os) (parts_of_event level e) (parts_of level es))
-
-pub in_order : (falls : Bool) (ns : List ℕ) → IsInOrder falls ns → IsOrdered ns
-in_order false ns h = inl h
-in_order true ns h = inr h
 
 pub orderly_keep_order : OriginsKeepOrder
 orderly_keep_order asks level es falls os mono h o =

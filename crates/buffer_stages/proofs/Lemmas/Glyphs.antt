@@ -10,19 +10,7 @@ use Rattle.buffer_glyphs.specs.Items.{Item, item_of, strip}
 use Rattle.buffer_glyphs.specs.Parts.{first_of}
 use Rattle.buffer_core.specs.Sides.{Sides, items_of}
 use Rattle.buffer_stages.specs.Buffers.{are_glyphs}
-
-and_first : (a b : Bool) → (a && b) ≡ true → a ≡ true
-and_first true b e = refl
-and_first false b e = cc
-
-and_second : (a b : Bool) → (a && b) ≡ true → b ≡ true
-and_second true b e = e
-and_second false b e = cc
-
-pub and_both : (a b : Bool) → a ≡ true → b ≡ true → (a && b) ≡ true
-and_both true true e f = refl
-and_both true false e f = cc
-and_both false b e f = cc
+use Rattle.buffer_facts.proofs.Truth.{first_true as and_first, second_true as and_second, and_true as and_both}
 
 pub all_of_both : {X : Type 0} (p : X → Bool) (xs ys : List X) → list_all p xs ≡ true → list_all p ys ≡ true → list_all p (xs ++ ys) ≡ true
 all_of_both p xs ys e f = list_all-append p xs ys ∙ and_both (list_all p xs) (list_all p ys) e f

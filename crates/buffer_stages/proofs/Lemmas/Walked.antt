@@ -115,8 +115,3 @@ walked_followed stage out es events s t new ready w is e f =
       ready = record { closed = refl; front = refl; unread = refl; placed = length-replicate (length (all_glyphs t)) zero_position; unrefused = w.unrefused ∙ ready.unrefused };
     } in
     subst (λ n. IsFollowed stage s n) (sym is) whole
-
--- a refusal that a call passes on
-pub passed_on : {A E : Type 0} (r : Result A E) (e : E) (P : E → Type 0) → IsErrAnd r (λ (f : E). f ≡ e) → P e → IfErr r P
-passed_on (Ok a) e P h p = tt
-passed_on (Err f) e P h p = subst P (sym h) p

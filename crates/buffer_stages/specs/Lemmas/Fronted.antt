@@ -8,6 +8,7 @@ use Rattle.buffer_stages.specs.Moves.{IsGrowing, all_moved, with_range_moved, re
 use Rattle.buffer_stages.specs.Fronts.{fronts, moves_to_front, with_fronts_moved, with_fronts_moved_after, elements_after_fronts}
 use Rattle.buffer_stages.specs.Lemmas.Moves.{take_both}
 use Rattle.buffer_stages.specs.Lemmas.Nested.{moved_middle}
+use Rattle.buffer_lists.proofs.Carried.{two_ranges as range_parts}
 
 -- ---- sizes
 
@@ -95,14 +96,6 @@ apart_at pair [] j d lt e = cc
 apart_at pair (x ∷ []) j d lt e = absurd (omega (arith, lt))
 apart_at pair (x ∷ y ∷ zs) zero d lt e = e
 apart_at pair (x ∷ y ∷ zs) (suc j) d lt e = apart_at pair (y ∷ zs) j d (omega (arith, lt)) e
-
-range_parts : {X : Type 0} (from middle to : ℕ) (xs : List X) → from ≤ middle → middle ≤ to → slice_range xs from to ≡ slice_range xs from middle ++ slice_range xs middle to
-range_parts from middle to xs le last =
-    let n = middle - from in
-    let k = to - middle in
-    let total : to - from ≡ n + k = omega (arith, le, last) in
-    let at : from + n ≡ middle = omega (arith, le) in
-    ap (λ m. take m (drop from xs)) total ∙ take_both n k (drop from xs) ∙ ap (λ ys. take n (drop from xs) ++ take k ys) (drop-drop n from xs ∙ ap (λ m. drop m xs) at)
 
 -- a front, a part that was rewritten, and the rest
 pub part_of : {X : Type 0} (from to : ℕ) (xs ys : List X) → from ≤ to → to ≤ length xs → length ys ≡ to - from → (take to (take from xs ++ ys ++ drop to xs) ≡ take from xs ++ ys) × (drop to (take from xs ++ ys ++ drop to xs) ≡ drop to xs)

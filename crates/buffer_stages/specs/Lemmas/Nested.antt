@@ -22,8 +22,8 @@ use Rattle.buffer_glyphs.specs.Origins.{Asks}
 use Rattle.buffer_glyphs.specs.Events.{origins_after}
 use Rattle.buffer_glyphs.specs.declared.level.BufferClusterLevel.{BufferClusterLevel}
 use Rattle.buffer_stages.specs.Moves.{MoveToFront, IsGrowing, MovesMergeOnce, all_moved, move_events, with_range_moved, order_of_move, reach}
-use Rattle.buffer_stages.specs.Lemmas.Alone.{merged_alone}
 use Rattle.buffer_stages.specs.Lemmas.Moves.{arranged_moved, moved_length, moved_seen, order_long}
+use Rattle.buffer_lists.proofs.Lemmas.SortedEvents.{lone_merged as merged_alone}
 
 pub map_alike : {X Y : Type 0} (f g : X → Y) (xs : List X) → ((x : X) → f x ≡ g x) → map f xs ≡ map g xs
 map_alike f g [] same = refl

@@ -14,19 +14,12 @@ use Rattle.buffer_lists.specs.Lemmas.KeyOrder.{all_below, by_key_moves}
 use Rattle.buffer_glyphs.specs.Items.{Item}
 use Rattle.buffer_stages.specs.Ordering.{groups_reversed, same_group, auxiliary_order}
 use Rattle.buffer_stages.specs.SyllableLaws.{IsPermuted}
+use Rattle.buffer_lists.proofs.Lemmas.Ranges.{joined_within}
 
 -- ---- sizes
 
 pub key_order_size : {X : Type 0} (key : X → ℕ) (xs : List X) → length (key_order key xs) ≡ length xs
 key_order_size key xs = length_permutation xs (key_order key xs) (by_key_moves key (key_bound key xs) xs (all_below key (key_bound key xs) xs (omega arith)))
-
-joined_within : {X : Type 0} (p : X → X → Bool) (x : X) (xs : List X) → joined_count p x xs ≤ length xs
-joined_within p x [] = omega arith
-joined_within p x (y ∷ ys) = by_test (p x y) (joined_within p y ys)
-  where
-    by_test : (t : Bool) → joined_count p y ys ≤ length ys → (if t then suc (joined_count p y ys) else 0) ≤ length (y ∷ ys)
-    by_test true le = omega (arith, le)
-    by_test false le = omega arith
 
 turned_within : {X : Type 0} (p : X → X → Bool) (n : ℕ) (xs : List X) → length xs ≤ n → length (groups_reversed_list p xs) ≡ length xs
 turned_within p n [] le = refl

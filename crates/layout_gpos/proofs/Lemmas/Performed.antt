@@ -17,6 +17,7 @@ use Rattle.layout_gpos.specs.Moving.{cut_with_positions}
 use Rattle.layout_gpos.specs.Marks.{with_found}
 use Rattle.layout_gpos.proofs.Lemmas.Nearest.{item_back}
 use Rattle.layout_gpos.proofs.Lemmas.Placed.{front_count, placed_made}
+use Rattle.buffer_facts.proofs.Bits.{and_of_or as and_or}
 
 -- ---- an attempt that failed
 
@@ -36,16 +37,6 @@ marked_made es n r ps s mid new p some le e =
     let R : Cut → Type 0 = λ c. IsMade (cut_with_positions n (ps c) c) (es ++ []) r s new in
     let at_start = subst R (same_with r s mid p.cut_is) all in
     subst (λ (fs : List Event). IsMade (cut_with_positions n (ps (cut_with r s)) (cut_with r s)) fs r s new) (append-nil es) at_start
-
-and_or : (n a m : ℕ) → bit_and (bit_or a m) n ≡ bit_or (bit_and a n) (bit_and m n)
-and_or n a m =
-    same_from_bits (bit_and (bit_or a m) n) (bit_or (bit_and a n) (bit_and m n)) (λ i.
-    let one = bit_at_and (bit_or a m) n i in
-    let two = bit_at_or a m i in
-    let three = bit_at_or (bit_and a n) (bit_and m n) i in
-    let four = bit_at_and a n i in
-    let five = bit_at_and m n i in
-    omega (arith, one, two, three, four, five))
 
 pub told_same : (near : Bool) (flags : ℕ) → stage_flags (with_attachment_flag near flags) ≡ with_attachment_flag near (stage_flags flags)
 told_same true flags = and_or 0xFFFF_FFDF flags 8

@@ -13,9 +13,10 @@ use Rattle.buffer_parts.specs.Breaks.Fragments.{with_ligature_renamed, AreGiven}
 use Rattle.layout_laws.specs.Breaks.Frames.{AreForeign}
 use Rattle.layout_laws.proofs.BreakLemmas.Words.{number_of_component, number_named, component_named, components_named, component_word_named, ligature_word_named}
 use Rattle.layout_laws.proofs.BreakLemmas.Frames.{given_both}
-use Rattle.layout_laws.proofs.BreakLemmas.Singles.{same_test, test_equal}
+use Rattle.layout_laws.proofs.BreakLemmas.Singles.{same_test}
 use Rattle.buffer_parts.proofs.BreakLemmas.Division.{given_take, given_drop}
 use Rattle.buffer_parts.proofs.BreakLemmas.Apart.{differs as other_test}
+use Rattle.buffer_facts.proofs.Numbers.{test_of_same as test_equal}
 
 -- ---- lists
 

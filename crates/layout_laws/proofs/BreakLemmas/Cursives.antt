@@ -32,6 +32,8 @@ use Rattle.layout_laws.proofs.BreakLemmas.Outcomes.{at_first_local}
 use Rattle.layout_laws.proofs.BreakLemmas.Placed.{at_around, set_around, change_around, near_farther, link_farther, leads_set, acted_beside, range_same}
 use Rattle.layout_laws.proofs.BreakLemmas.Marks.{found_beside, before_found}
 use Rattle.layout_offsets.proofs.Lemmas.Turned.{unless_there}
+use Rattle.buffer_facts.proofs.Truth.{both_true}
+use Rattle.buffer_facts.proofs.Numbers.{at_most_by_test as at_most}
 
 -- ---- where links lead, in the text
 
@@ -95,14 +97,6 @@ old_parent_around o n stop i ps e lt h =
     by_kind false = refl
 
 -- ---- links turned round
-
-both_true : (a b : Bool) → (a && b) ≡ true → (a ≡ true) × (b ≡ true)
-both_true true true e = (refl, refl)
-both_true true false e = cc
-both_true false b e = cc
-
-at_most : (a b : ℕ) → nat_le a b ≡ true → a ≤ b
-at_most a b e = grind (arith, nat_tests, e)
 
 near_back : (i j : ℕ) → is_near i j ≡ true → is_near j i ≡ true
 near_back i j e = let both = both_true (nat_le (i - j) 32767) (nat_le (j - i) 32767) e in ap (λ (b : Bool). b && nat_le (i - j) 32767) both.1 ∙ both.0

@@ -31,6 +31,7 @@ use Rattle.layout_laws.proofs.BreakLemmas.Passes.{pass_read, pass_events}
 use Rattle.buffer_parts.proofs.BreakLemmas.Division.{without_both}
 use Rattle.layout_gpos.proofs.Lemmas.Left.{past_left as items_stay}
 use Rattle.layout_positioning.proofs.Left.{cut_whole}
+use Rattle.buffer_facts.proofs.Truth.{lacks_second as no_both}
 
 -- ---- deletions with their neighbours flagged
 
@@ -360,10 +361,6 @@ none_owns c = ((refl, tt), λ own. by_front c.front own)
 
 is_base : (id m : ℕ) → m ≤ 268435455 → (id * 536870912 + (268435456 + m)) / 268435456 % 2 ≡ 1
 is_base id m le = omega (arith, le)
-
-no_both : (a b : Bool) → b ≡ false → (a && b) ≡ false
-no_both true b e = e
-no_both false b e = refl
 
 -- a ligature with a number is its own component
 ligature_own : (gdef : GlyphDefinition) (glyph : ℕ) (components : List Item) (id : ℕ) (x : Item) → IsOwn x → IsOwn (ligature_item gdef glyph components id x)

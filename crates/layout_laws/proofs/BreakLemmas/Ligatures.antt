@@ -32,10 +32,11 @@ use Rattle.layout_laws.proofs.BreakLemmas.Matching.{Agree, match_agrees, LiesWit
 use Rattle.layout_laws.proofs.BreakLemmas.Blind.{answers_blind, glyphs_blind}
 use Rattle.layout_laws.proofs.BreakLemmas.Frames.{front_joined, front_long, rest_long, given_both, given_more, same_extended}
 use Rattle.layout_laws.proofs.BreakLemmas.Outcomes.{first_local, at_first_local, local_from_items, items_from_local, IsLocalAt}
-use Rattle.layout_laws.proofs.BreakLemmas.Singles.{single_at, test_equal}
+use Rattle.layout_laws.proofs.BreakLemmas.Singles.{single_at}
 use Rattle.layout_laws.proofs.BreakLemmas.Components.{item_longer, items_named, own_named, components_longer, items_same, ligature_named, all_between_named, after_named, between_given, after_given, item_given}
 use Rattle.buffer_parts.proofs.BreakLemmas.Division.{given_drop}
 use Rattle.buffer_parts.proofs.BreakLemmas.Apart.{differs as other_test}
+use Rattle.buffer_facts.proofs.Numbers.{test_of_same as test_equal}
 
 -- ---- a new number
 

@@ -32,13 +32,14 @@ use Rattle.layout_laws.specs.Breaks.Local.{IsBeside, IsLocal}
 use Rattle.layout_laws.specs.Breaks.Positioned.{LeadInside, continues, AreApart, ArePlaced, around}
 use Rattle.layout_laws.proofs.BreakLemmas.Words.{number_named, component_named}
 use Rattle.layout_laws.proofs.BreakLemmas.Blind.{answer_blind}
-use Rattle.layout_laws.proofs.BreakLemmas.Singles.{test_equal, same_test, none_named}
+use Rattle.layout_laws.proofs.BreakLemmas.Singles.{same_test, none_named}
 use Rattle.layout_laws.proofs.BreakLemmas.Frames.{front_long, backward_framed, given_both}
 use Rattle.layout_laws.proofs.BreakLemmas.Matching.{searches_from_agree}
 use Rattle.layout_laws.proofs.BreakLemmas.Outcomes.{at_first_local}
 use Rattle.layout_laws.proofs.BreakLemmas.Placed.{change_around, near_farther, link_farther, leads_set, acted_beside, range_same, item_named}
 use Rattle.layout_laws.proofs.BreakLemmas.Components.{item_given as given_at}
 use Rattle.buffer_parts.proofs.BreakLemmas.Apart.{differs as other_test}
+use Rattle.buffer_facts.proofs.Numbers.{same_by_test as equal_test, test_of_same as test_equal}
 
 -- ---- an attached mark
 
@@ -82,9 +83,6 @@ later_named name last given names x y le more =
     ap (λ (b : Bool). is_multiplied x && is_multiplied y && not (is_mark y) && b && nat_lt 0 (lig_comp z) && lig_comp w == lig_comp z - 1) (same_numbers name last given names x y le more)
     ∙ ap (λ (n : ℕ). is_multiplied x && is_multiplied y && not (is_mark y) && lig_id x == lig_id y && nat_lt 0 n && lig_comp w == n - 1) (component_named name x)
     ∙ ap (λ (n : ℕ). is_multiplied x && is_multiplied y && not (is_mark y) && lig_id x == lig_id y && nat_lt 0 (lig_comp x) && n == lig_comp x - 1) (component_named name y)
-
-equal_test : (m n : ℕ) → (m == n) ≡ true → m ≡ n
-equal_test m n e = grind (arith, common_steps, e)
 
 never : (a b c d e : Bool) → (a && b && c && false && d && e) ≡ false
 never true true true d e = refl

@@ -6,12 +6,7 @@ use Rattle.buffer_glyphs.specs.LigatureWords.{lig_comp, lig_id}
 use Rattle.layout_gsub.specs.Ligating.{component_now, following_items, with_component}
 use Rattle.layout_laws.specs.Breaks.Members.{is_member, FollowOwn, members_renumbered, FollowersAreMembers, RenumberedFollow}
 use Rattle.layout_laws.proofs.BreakLemmas.Words.{number_of_component}
-
-equal_numbers : (m n : ℕ) → (m == n) ≡ true → m ≡ n
-equal_numbers m n e = grind (arith, common_steps, e)
-
-same_number : (m n : ℕ) → m ≡ n → (m == n) ≡ true
-same_number m n e = grind (arith, common_steps, e)
+use Rattle.buffer_facts.proofs.Numbers.{same_by_test as equal_numbers, test_of_same as same_number}
 
 member_by : (y : Item) → (lig_id y == 0) ≡ false → (lig_comp y == 0) ≡ false → is_member y ≡ true
 member_by y e f = ap (λ (b : Bool). not b && not (lig_comp y == 0)) e ∙ ap (λ (b : Bool). not b) f

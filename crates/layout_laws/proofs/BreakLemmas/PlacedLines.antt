@@ -35,11 +35,9 @@ use Rattle.layout_laws.proofs.BreakLemmas.Marks.{given_reverse as given_reversed
 use Rattle.layout_match.proofs.Lemmas.Steps.{ended as trials_end}
 use Rattle.buffer_parts.specs.Lemmas.Stages.{same_read as read_same}
 use Rattle.buffer_stages.specs.Lemmas.Shifts.{shift_none as all_shifted_none}
+use Rattle.buffer_facts.proofs.Numbers.{same_by_test as equal_numbers}
 
 -- ---- the seam under other names
-
-equal_numbers : (m n : ℕ) → (m == n) ≡ true → m ≡ n
-equal_numbers m n e = grind (arith, common_steps, e)
 
 -- whether an item continues the one before it, where that has another name
 continues_named : (name : ℕ → ℕ) (last given : ℕ) → IsNaming name last given → (y x : Item) → lig_id y ≤ last → continues (with_ligature_renamed name y) x ≡ continues y x

@@ -34,6 +34,7 @@ use Rattle.layout_laws.proofs.BreakLemmas.Passes.{count_without}
 use Rattle.layout_laws.proofs.BreakLemmas.Indices.{farther, index_farther, none_farther, resized, resized_farther, end_farther, rising_at}
 use Rattle.layout_positioning.proofs.Left.{cut_whole}
 use Rattle.buffer_parts.proofs.BreakLemmas.Division.{given_take, given_drop, without_both, merges_both}
+use Rattle.buffer_facts.proofs.Numbers.{test_of_less as less_test, test_of_not_less as more_test}
 
 -- ---- what a rule spends
 
@@ -264,12 +265,6 @@ nested_at_beside P over act local keeps r o t low p d ps end u index lt =
     by_tests true true k = k
     by_tests true false k = stopped_beside P o t low d (nested_outcome r.sequence_index (length o.before + p) (cut_at (length o.before + p) (framed_cut o (with_unit_spent t) (with_budget_spent d))) (farther (length o.before) ps) (length o.before + end) (act r.lookup_index (cut_at (length o.before + p) (framed_cut o (with_unit_spent t) (with_budget_spent d)))))
     by_tests false b k = tt
-
-less_test : (a b : ℕ) → a < b → nat_lt a b ≡ true
-less_test a b lt = grind (arith, nat_tests, common_steps)
-
-more_test : (a b : ℕ) → b ≤ a → nat_lt a b ≡ false
-more_test a b le = grind (arith, nat_tests, common_steps)
 
 -- a record at an index of the match
 index_beside : (P : Placing) → IsOfWhole P → (act : ℕ → Action) → NestedLocal P act → ((i : ℕ) → RuleKeepsParts (act i)) → (r : SequenceLookupRecord) (o : Outside) (t : Inside) (low p : ℕ) (d : Cut) (ps : List ℕ) (end : ℕ) → IsUnderway P o t low d ps end → slice_get ps r.sequence_index ≡ Some p

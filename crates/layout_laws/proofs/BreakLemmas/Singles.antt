@@ -29,14 +29,9 @@ use Rattle.layout_laws.specs.Breaks.Local.{AnyPositions, Binds, IsBeside, IsLoca
 use Rattle.layout_laws.proofs.BreakLemmas.Words.{number_named, number_of_component, component_word_named}
 use Rattle.layout_laws.proofs.BreakLemmas.Frames.{front_joined, front_long, rest_long, whole_long, given_both, still_framed, same_extended}
 use Rattle.layout_laws.proofs.BreakLemmas.Outcomes.{limited_beside, at_first_local, IsLocalAt}
+use Rattle.buffer_facts.proofs.Numbers.{same_by_test as equal_test, test_of_same as test_equal}
 
 -- ---- tests of numbers
-
-equal_test : (m n : ℕ) → (m == n) ≡ true → m ≡ n
-equal_test m n e = grind (arith, common_steps, e)
-
-pub test_equal : (m n : ℕ) → m ≡ n → (m == n) ≡ true
-test_equal m n e = grind (arith, common_steps, e)
 
 -- tests that imply each other have one answer
 pub same_test : (a b c d : ℕ) → (a ≡ b → c ≡ d) → (c ≡ d → a ≡ b) → (a == b) ≡ (c == d)

@@ -4,20 +4,12 @@ use Rattle.std.specs.Prelude.{◌/◌, ◌%◌}
 use Rattle.buffer_glyphs.specs.Items.{Item}
 use Rattle.buffer_glyphs.specs.LigatureWords.{component_bound, component_word, is_lig_base, is_ligature, lig_comp, lig_id, lig_num_comps, ligature_word}
 use Rattle.buffer_parts.specs.Breaks.Fragments.{with_ligature_renamed}
+use Rattle.buffer_facts.proofs.Bits.{above_29_bits as number_of, bit_28 as base_of, below_28_bits as component_of}
 
 -- ---- words
 
-number_of : (a r : ℕ) → (a * 536870912 + r % 536870912) / 536870912 ≡ a
-number_of a r = omega arith
-
 part_of : (a r : ℕ) → (a * 536870912 + r % 536870912) % 536870912 ≡ r % 536870912
 part_of a r = omega arith
-
-base_of : (a r : ℕ) → (a * 536870912 + r % 536870912) / 268435456 % 2 ≡ r / 268435456 % 2
-base_of a r = omega arith
-
-component_of : (a r : ℕ) → (a * 536870912 + r % 536870912) % 268435456 ≡ r % 268435456
-component_of a r = omega arith
 
 -- a word with its number taken for another
 pub word_of : (a r : ℕ) → r < 536870912 → (a * 536870912 + r) / 536870912 ≡ a

@@ -15,6 +15,7 @@ use Rattle.buffer_stages.specs.Actions.{Action}
 use Rattle.buffer_stages.specs.Buffers.{are_glyphs}
 use Rattle.buffer_stages.specs.Masks.{shares_mask}
 use Rattle.layout_match.specs.Skipping.{HoldsNumbers, HoldsMasks, PassesAll, PassesAt}
+use Rattle.buffer_facts.proofs.Numbers.{test_of_itself as same_number}
 
 pub number_there : (gs : List hb_glyph_info_t) (k : ℕ) (d : hb_glyph_info_t) → k < length gs → are_glyphs (strip gs) ≡ true → (get_or gs k d).glyph_id ≤ 65535
 number_there [] k d lt e = absurd (omega (arith, lt))
@@ -49,9 +50,6 @@ pub held_all : (has : ℕ → Bool) (gs : List hb_glyph_info_t) (k : ℕ) → le
 held_all has gs k le held n e =
     let here = sym (any_mapped (λ (x : Item). x.number == n) gs) ∙ e in
     held n (ap (list_any (λ (g : hb_glyph_info_t). g.glyph_id == n)) (take_all k gs le) ∙ here)
-
-same_number : (n : ℕ) → (n == n) ≡ true
-same_number n = grind (arith, nat_tests)
 
 -- where what is covered is none of a text's glyphs, no item passes a test and is covered
 pub glyphs_missed : (has covers : ℕ → Bool) (test : Item → Bool) (xs : List Item) → HoldsNumbers has xs → ((n : ℕ) → has n ≡ true → covers n ≡ false) → list_any (λ (x : Item). test x && covers x.number) xs ≡ false

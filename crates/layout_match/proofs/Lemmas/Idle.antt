@@ -16,6 +16,7 @@ use Rattle.layout_match.specs.Steps.{MeetsGlyph}
 use Rattle.layout_match.specs.Trying.{meets, met_first}
 use Rattle.layout_match.proofs.Lemmas.Held.{passes_uncovered}
 use Rattle.layout_match.proofs.Lemmas.Untouched.{rule_passes, unmet_passes}
+use Rattle.buffer_facts.proofs.Truth.{first_false as first_none}
 
 -- the number of a glyph at an index
 pub number_at : (gs : List hb_glyph_info_t) (k : ℕ) (g : hb_glyph_info_t) → slice_get gs k ≡ Some g → are_glyphs (strip gs) ≡ true → g.glyph_id ≤ 65535
@@ -40,10 +41,6 @@ or_none false false e f = refl
 or_none false true e f = cc
 or_none true b e f = cc
 
-first_none : (a b : Bool) → (a || b) ≡ false → a ≡ false
-first_none false b e = refl
-first_none true b e = cc
-
 rest_none : (a b : Bool) → (a || b) ≡ false → b ≡ false
 rest_none false b e = e
 rest_none true b e = cc
@@ -58,16 +55,6 @@ none_next test (h ∷ gs) (suc k) g at none off =
     let here = first_none (test (item_of h)) (list_any test (take k (strip gs))) none in
     let more = none_next test gs k g at (rest_none (test (item_of h)) (list_any test (take k (strip gs))) none) off in
     ap (λ n. list_any test (take n (strip (h ∷ gs)))) e ∙ or_none (test (item_of h)) (list_any test (take (k + 1) (strip gs))) here more
-
--- a glyph that isn't covered need not be tried
-pub uncovered_there : (met covered : Bool) → covered ≡ false → (met && covered) ≡ false
-uncovered_there false covered e = refl
-uncovered_there true covered e = e
-
--- nor one that a lookup doesn't meet
-pub unmet_there : (met covered : Bool) → met ≡ false → (met && covered) ≡ false
-unmet_there false covered e = refl
-unmet_there true covered e = cc
 
 -- ---- a lookup passes at each glyph that it isn't tried at
 

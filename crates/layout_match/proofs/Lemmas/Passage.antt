@@ -17,8 +17,9 @@ use Rattle.buffer_stages.proofs.Lemmas.Frames.{still_settings, still_refused, st
 use Rattle.layout_match.specs.Trying.{trials, with_zero_positions, whole_list, forward_pass}
 use Rattle.layout_match.specs.Steps.{IsStep, IsGivenUp, IsIdleRun, IsIdleRunTooLong}
 use Rattle.layout_match.proofs.Lemmas.Runs.{run_refused, run_trials}
-use Rattle.layout_match.proofs.Lemmas.Steps.{empty, ended}
+use Rattle.layout_match.proofs.Lemmas.Steps.{ended}
 use Rattle.buffer_core.proofs.Kept.{moved_all as run_moved_all}
+use Rattle.buffer_facts.proofs.Lists.{empty_by_length as empty}
 
 -- a lookup on its way from a start, from which so many steps may be made: so many of them are left
 pub record IsUnderway (act : Action) (count before after : ℕ) (start now : Sides) : Type 0 where

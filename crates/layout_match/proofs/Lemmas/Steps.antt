@@ -17,10 +17,6 @@ use Rattle.buffer_stages.proofs.Lemmas.Performed.{same_with}
 use Rattle.layout_match.specs.Trying.{trials, trial_at, after_outcome, outcome_past_item}
 use Rattle.layout_match.specs.Steps.{IsStep, IsGivenUp}
 
-pub empty : {X : Type 0} (xs : List X) → length xs ≡ 0 → xs ≡ []
-empty [] e = refl
-empty (x ∷ xs) e = cc
-
 pub ended : (act : Action) (v : View) (n : ℕ) (c : Cut) → c.rest ≡ [] → trials act v n c ≡ Ok (with_events [] (view_at v c))
 ended act v zero c e = refl
 ended act v (suc n) c e = ap (λ (xs : List Item). trial_at act (trials act v n) v xs c) e

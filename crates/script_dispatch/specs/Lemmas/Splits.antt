@@ -5,7 +5,7 @@ use Rattle.std.specs.List.{list_any}
 use Rattle.buffer_unicode_tables.specs.Expansion.{EndWithin, ends_by, ends_within}
 use Rattle.buffer_unicode_tables.specs.Tables.{Tables, split_of}
 use Rattle.script_plan.specs.declared.plan.hb_script_plan_t.{hb_script_plan_t}
-use Rattle.script_plan.specs.Lemmas.Unchanged.{by_more, nine_splits, none_more}
+use Rattle.script_plan.specs.Lemmas.Unchanged.{nine_splits}
 use Rattle.script_categories.specs.declared.shaper.hb_ot_script_shaper_t.{hb_ot_script_shaper_t}
 use Rattle.script_categories.specs.declared.shaper.hb_ot_script_shaper_t.TheVariants.{ARABIC_SHAPER, HANGUL_SHAPER, HEBREW_SHAPER, INDIC_SHAPER, KHMER_SHAPER, MYANMAR_SHAPER, MYANMAR_ZAWGYI_SHAPER, THAI_SHAPER, UNIVERSAL_SHAPER}
 use Rattle.script_indic.specs.Characters.{indic_split}
@@ -15,6 +15,7 @@ use Rattle.script_dispatch.specs.Hooks.{splits_by}
 use Rattle.script_dispatch.specs.declared.any_shaper.hb_ot_any_shaper_t.{hb_ot_any_shaper_t}
 use Rattle.script_dispatch.specs.declared.any_shaper.hb_ot_any_shaper_t.TheVariants as any
 use Rattle.script_dispatch.specs.Rules.{rules_of}
+use Rattle.buffer_unicode_tables.proofs.Chains.{ends_by_more as by_more, no_split_ends as none_more}
 
 -- the left half of a Khmer vowel has no decomposition
 left_ends : (t : Tables) (depth : ℕ) → ends_within (khmer_split t) depth LEFT_PART ≡ true

@@ -8,6 +8,7 @@ use Rattle.buffer_glyphs.specs.Items.{item_of, without_flags}
 use Rattle.buffer_glyphs.specs.Origins.{origin_of}
 use Rattle.script_indic_reordering.specs.Masks.{own_bits, without_bits}
 use Rattle.buffer_core.proofs.Masked.{high_cleared, without_flags_is}
+use Rattle.buffer_facts.proofs.Bits.{three_bits_stay as flags_stay}
 
 pub own_no_flags : (bits n : ℕ) → n ≡ own_bits bits → bit_and n 7 ≡ 0
 own_no_flags bits n e =
@@ -31,15 +32,6 @@ cleared_above m under none =
     let f : bit_and (n % 8) (under % 8) ≡ 0 = ap (bit_and (n % 8)) none ∙ and_zero_r (n % 8) in
     let some = and_le_l (m / 8) (under / 8) in
     omega (arith, a, b, is, c, d, e, f, some)
-
-flags_stay : (m under : ℕ) → under % 8 ≡ 0 → bit_and (m - bit_and m under) 7 ≡ bit_and m 7
-flags_stay m under none =
-    let a = and_mask (m - bit_and m under) 3 in
-    let b = and_mask m 3 in
-    let low = and_mod m under 3 in
-    let off : bit_and (m % 8) (under % 8) ≡ 0 = ap (bit_and (m % 8)) none ∙ and_zero_r (m % 8) in
-    let most = and_le_l m under in
-    omega (arith, a, b, low, off, most)
 
 flagless : (bits : ℕ) → bit_and bits 7 ≡ 0 → bits % 8 ≡ 0
 flagless bits e = let low = and_mask bits 3 in omega (arith, low, e)

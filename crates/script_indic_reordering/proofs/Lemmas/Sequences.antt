@@ -13,6 +13,7 @@ use Rattle.script_indic_reordering.specs.Initial.{has_two_matras}
 use Rattle.script_indic_reordering.specs.Indices.{begins_with, first_at, last_at}
 use Rattle.script_indic_reordering.specs.Lemmas.Indices.{first_hit, first_skip, last_found, last_next}
 use Rattle.script_indic_reordering.proofs.Lemmas.Positions.{begins_at, items_from, past_end}
+use Rattle.buffer_facts.proofs.Numbers.{more_than_one as two_more, more_than_none as one_more}
 
 pub first_here : (p : Item → Bool) (gs : List hb_glyph_info_t) (i : ℕ) (o : Option ℕ) (d : hb_glyph_info_t) → i < length gs → p (item_of (get_or gs i d)) ≡ true → first_at (begins_with p) i (drop i (strip gs)) ≡ o → Some i ≡ o
 first_here p gs i o d lt e f = let m = length-map gs item_of in first_hit (begins_with p) i (strip gs) o (omega (arith, lt, m)) (begins_at p gs i d true lt e) f
@@ -60,12 +61,6 @@ last_none p gs from i le e = sym (subst (λ n. last_at (begins_with p) n (drop n
 -- whether the left matras of a list, with the one that was met, are two
 abbrev pub are_two : Bool → List Item → Bool
 are_two met xs = if met then nat_lt 0 (length (filter is_left_matra xs)) else nat_lt 1 (length (filter is_left_matra xs))
-
-two_more : (n : ℕ) → nat_lt 1 (suc n) ≡ nat_lt 0 n
-two_more n = grind (arith, nat_tests, common_steps)
-
-one_more : (n : ℕ) → nat_lt 0 (suc n) ≡ true
-one_more n = grind (arith, nat_tests, common_steps)
 
 lefts_here : (gs : List hb_glyph_info_t) (i : ℕ) (d : hb_glyph_info_t) (t : Bool) → i < length gs → is_left_matra (item_of (get_or gs i d)) ≡ t
     → filter is_left_matra (drop i (strip gs)) ≡ (if t then item_of (get_or gs i d) ∷ filter is_left_matra (drop (i + 1) (strip gs)) else filter is_left_matra (drop (i + 1) (strip gs)))

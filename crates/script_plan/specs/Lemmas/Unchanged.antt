@@ -17,6 +17,7 @@ use Rattle.buffer_parts.specs.Lemmas.PlainStages.{plain_stages_keep_parts, same_
 use Rattle.script_plan.specs.Rules.{RulesDependOnNoLimit, RulesKeepParts, plain_rules}
 use Rattle.script_plan.specs.Lemmas.Arranged.{steady_arranged}
 use Rattle.script_plan.specs.Lemmas.Limits.{same_by}
+use Rattle.buffer_unicode_tables.proofs.Chains.{ends_more as one_more, no_split_ends as none_more, ends_by_more as by_more}
 
 pub unchanged_followed : (s : Sides) → IsReady s → IsFollowed as_it_is s s
 unchanged_followed s ready = record { follows = follows_same (state_of s); settings = refl; ready = ready }
@@ -51,19 +52,6 @@ plain_rules_depend_on_no_limit = record {
 }
 
 -- ---- chains of first halves
-
-pub by_more : (e f : ℕ → Bool) → ((a : ℕ) → e a ≡ true → f a ≡ true) → (s : Option (ℕ × ℕ)) → ends_by e s ≡ true → ends_by f s ≡ true
-by_more e f more None h = refl
-by_more e f more (Some (a, b)) h = more a h
-
-pub none_more : (e : ℕ → Bool) (s : Option (ℕ × ℕ)) → is_none s ≡ true → ends_by e s ≡ true
-none_more e None h = refl
-none_more e (Some (a, b)) h = cc
-
-one_more : (splits : Splits) (depth u : ℕ) → ends_within splits depth u ≡ true → ends_within splits (suc depth) u ≡ true
-unfolding ends_within
-one_more splits zero u h = none_more (ends_within splits zero) (splits u) h
-one_more splits (suc depth) u h = by_more (ends_within splits depth) (ends_within splits (suc depth)) (one_more splits depth) (splits u) h
 
 -- chains that end within eight splits end within nine
 pub nine_splits : (splits : Splits) → EndWithin splits 8 → EndWithin splits 9

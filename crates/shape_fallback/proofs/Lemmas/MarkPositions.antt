@@ -18,6 +18,7 @@ use Rattle.shape_fallback.specs.declared.bases.Base.{Base}
 use Rattle.shape_fallback.specs.declared.marks.Before.{Before}
 use Rattle.shape_fallback.specs.declared.marks.Before.TheVariants.{Boxed, Boxless, Nothing}
 use Rattle.shape_fallback.specs.declared.marks.Step.{Step}
+use Rattle.buffer_facts.proofs.Bits.{above_29_bits as number_of, bit_28 as kind_of, below_28_bits as part_of}
 
 -- ---- other numbers for ligatures
 
@@ -41,15 +42,6 @@ AreMarks [] = Unit {0}
 AreMarks (x ∷ xs) = (is_mark x ≡ true) × AreMarks xs
 
 -- ---- ligature words under other names
-
-number_of : (a r : ℕ) → (a * 536870912 + r % 536870912) / 536870912 ≡ a
-number_of a r = omega arith
-
-kind_of : (a r : ℕ) → (a * 536870912 + r % 536870912) / 268435456 % 2 ≡ r / 268435456 % 2
-kind_of a r = omega arith
-
-part_of : (a r : ℕ) → (a * 536870912 + r % 536870912) % 268435456 ≡ r % 268435456
-part_of a r = omega arith
 
 number_named : (f : ℕ → ℕ) (x : Item) → lig_id (with_other_number f x) ≡ f (lig_id x)
 number_named f x = number_of (f (lig_id x)) x.lig_props

@@ -17,10 +17,7 @@ use Rattle.shape_fallback.specs.declared.marks.Before.{Before}
 use Rattle.shape_fallback.specs.declared.marks.Before.TheVariants.{Nothing}
 use Rattle.shape_fallback.specs.declared.marks.Step.{Step}
 use Rattle.shape_fallback.specs.Marks.{base_events, is_left_to_right, marks, positioned_marks, step, step_of_mark, with_positioned_marks}
-
-neither : (a b : Bool) → (a || b) ≡ false → (a ≡ false) × (b ≡ false)
-neither true b e = cc
-neither false b e = (refl, e)
+use Rattle.buffer_facts.proofs.Truth.{neither_true as neither}
 
 by_step : (b : Bool) (s t : Step) (p : Position) → b ≡ false → t.position ≡ p → (if b then s else t).position ≡ p
 by_step true s t p e h = cc

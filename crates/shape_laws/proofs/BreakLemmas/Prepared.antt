@@ -16,6 +16,7 @@ use Rattle.shape_text.specs.declared.graphemes.Before.{Before}
 use Rattle.shape_text.specs.Graphemes.{continues, is_extender, is_joined}
 use Rattle.shape_text.specs.Properties.{items_prepared, next_before, prepared_item}
 use Rattle.shape_parts.proofs.Graphemes.{no_middle_bit, alone_word}
+use Rattle.buffer_facts.proofs.Truth.{first_false as neither}
 
 -- what is read of the last of some characters, after others
 abbrev pub before_after : Tables → Option Before → List Item → Option Before
@@ -30,10 +31,6 @@ first_continues t before (y ∷ ys) = continues t before y.number
 pub prepared_both : (t : Tables) (before : Option Before) (xs ys : List Item) → items_prepared t before (xs ++ ys) ≡ items_prepared t before xs ++ items_prepared t (before_after t before xs) ys
 prepared_both t before [] ys = refl
 prepared_both t before (x ∷ xs) ys = ap (λ zs. prepared_item t (continues t before x.number) x ∷ zs) (prepared_both t (Some (next_before t before x.number)) xs ys)
-
-neither : (a b : Bool) → (a || b) ≡ false → a ≡ false
-neither true b e = cc
-neither false b e = refl
 
 not_first : (t : Tables) (before : Option Before) (u : ℕ) → continues t before u ≡ false → continues t None u ≡ false
 not_first t None u e = e

@@ -16,6 +16,8 @@ use Rattle.shape_laws.proofs.BreakLemmas.Marks.{AreOf, marks_are}
 use Rattle.shape_laws.proofs.BreakLemmas.Thai.{none_above}
 use Rattle.shape_laws.proofs.BreakLemmas.ThaiMarks.{IsMarkedLater, is_other_mark, marked_later, vowelless_stays}
 use Rattle.shape_laws.proofs.BreakLemmas.Vowels.{vowels_left}
+use Rattle.buffer_facts.proofs.Truth.{or_true}
+use Rattle.buffer_facts.proofs.Lists.{first_equal as first_number, rest_equal as rest_numbers}
 
 -- ---- tests of numbers
 
@@ -30,21 +32,6 @@ any_number f xs zs e = sym (by_numbers zs) ∙ ap (list_any f) e ∙ by_numbers 
 -- whether a number is that of such a vowel
 abbrev vowel_number : ℕ → Bool
 vowel_number u = thai_or_lao u == 0x0E33
-
--- the first of some numbers
-first_number : (u v : ℕ) (us vs : List ℕ) → u ∷ us ≡ v ∷ vs → u ≡ v
-first_number u v us vs e = ap head e
-  where
-    head : List ℕ → ℕ
-    head [] = 0
-    head (w ∷ ws) = w
-
-rest_numbers : (u v : ℕ) (us vs : List ℕ) → u ∷ us ≡ v ∷ vs → us ≡ vs
-rest_numbers u v us vs e = ap tail e
-  where
-    tail : List ℕ → List ℕ
-    tail [] = []
-    tail (w ∷ ws) = ws
 
 -- the marks among items of characters, but for such vowels
 other_marks : (xs zs : List Item) → AreOf (characters xs) zs → characters zs ≡ characters xs → list_any is_other_mark zs ≡ list_any is_plain_mark xs
@@ -97,10 +84,6 @@ first_below z h = elim (cases_Bool (is_sara_am z)) [
     below_two o e some = omega (arith, e, some)
 
 -- ---- marks once vowels are decomposed
-
-or_true : (b : Bool) → (b || true) ≡ true
-or_true true = refl
-or_true false = refl
 
 begins_marked : (out xs : List Item) → 0 < length out → (list_any is_other_mark xs ≡ true) ⊎ ((count_above out < length out) × (list_any is_sara_am xs ≡ true)) → IsMarkedLater out xs
 begins_marked [] xs some h = absurd (omega (arith, some))

@@ -37,6 +37,7 @@ use Rattle.shape_laws.proofs.Plain.Texts.{Are, IsPlain, Leads, always_leads, are
 use Rattle.shape_laws.proofs.Plain.Chosen.{Placed}
 use Rattle.shape_laws.proofs.Plain.Glyphs.{Based}
 use Rattle.shape_laws.proofs.Plain.Words.{word_category, word_mark, word_shown}
+use Rattle.buffer_facts.proofs.Truth.{lacks_first as and_if}
 
 -- ---- positions by glyphs
 
@@ -69,10 +70,6 @@ positioned_at font u x b =
 pub kept_if : (b : Bool) (p q : Position) → b ≡ false → (if b then q else p) ≡ p
 kept_if true p q e = cc
 kept_if false p q e = refl
-
-and_if : (b c : Bool) → b ≡ false → (b && c) ≡ false
-and_if true c e = cc
-and_if false c e = refl
 
 unspaced : (d : Direction) (font : FaceParts) (u : ℕ) (x : Item) (p : Position) → Based font u x → space_position d font x p ≡ p
 unspaced d font u x p b =

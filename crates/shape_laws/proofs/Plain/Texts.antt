@@ -13,6 +13,7 @@ use Rattle.buffer_glyphs.specs.Items.{Item}
 use Rattle.buffer_core.specs.Readings.{Read, Stage, View, always, and_then, as_it_is, then_read, then_reading, with_events}
 use Rattle.shape_pipeline.specs.Chains.{in_order, only_if}
 use Rattle.shape_laws.specs.PlainTexts.{glyph_of, has_glyph, is_plain, is_space_character}
+use Rattle.buffer_facts.proofs.Truth.{false_by_not as denied}
 
 -- ---- plain characters
 
@@ -22,10 +23,6 @@ pub record IsPlain (font : FaceParts) (u : ℕ) : Type 0 where
   pub unmarked : is_mark_character u ≡ false
   pub printed : is_space_character u ≡ false
   pub shown : is_default_ignorable_character u ≡ false
-
-denied : (b : Bool) → not b ≡ true → b ≡ false
-denied true e = cc
-denied false e = refl
 
 pub plain_facts : (font : FaceParts) (u : ℕ) → is_plain font u ≡ true → IsPlain font u
 plain_facts font u h =

@@ -21,6 +21,7 @@ use Rattle.shell_face_json.specs.Scripts.{layout_of, script, feature}
 use Rattle.shell_face_json.specs.Text.Table.{layout_in}
 use Rattle.layout_tables.specs.Layout.{LayoutLists, ScriptTable, FeatureTable}
 use Rattle.std.specs.Ordering.{nat_cmp}
+use Rattle.buffer_facts.proofs.Truth.{first_true as and_first, second_true as and_second}
 
 -- a value that was taken whole
 pub whole_found : (o : Option Data) (found : Option Value) → IsFound (λ d v. view v ≡ d) o found → option_map view found ≡ o
@@ -63,14 +64,6 @@ table_taken part limit limit' n0 n1 n2 d ms scripts features found lookups layou
     (ap is_object e, ap layout_of e ∙ got.0, ap (rows_at (codes "lookups") (rows_in_turn (part limit'))) e ∙ got.1 ∙ ap (λ xs. Ok xs) (sym r))
 
 -- ---- lookups that name others
-
-and_first : (a b : Bool) → (a && b) ≡ true → a ≡ true
-and_first true b e = refl
-and_first false b e = absurd (cc)
-
-and_second : (a b : Bool) → (a && b) ≡ true → b ≡ true
-and_second true b e = e
-and_second false b e = absurd (cc)
 
 module _ {L : Type 0} (read : Data → Result L JsonFault) where
   -- lookups that were read, and of each of which a test holds

@@ -2,8 +2,8 @@ use Rattle.std.proofs.Common.{◌+◌, arith}
 use Rattle.std.proofs.lemmas.Grind.{common_steps}
 use Rattle.font_bytes.specs.Words.{byte}
 use Rattle.font_bytes.proofs.Recorded.{records_more, records_end}
-use Rattle.font_cff.proofs.Lists.{one_done}
 use Rattle.font_cff.proofs.selects.read_listed.Goals as goal
+use Rattle.buffer_facts.proofs.Lists.{one_done}
 
 pub loop-index-preserved : goal.loop-index-preserved
 loop-index-preserved c =

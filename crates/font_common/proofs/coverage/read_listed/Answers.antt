@@ -2,8 +2,9 @@ use Rattle.std.proofs.Common.{◌+◌, arith}
 use Rattle.std.proofs.lemmas.Grind.{common_steps}
 use Rattle.font_bytes.specs.Words.{word}
 use Rattle.font_bytes.proofs.Recorded.{records_more, records_end}
-use Rattle.font_common.proofs.Coverages.{one_done, fall_step}
+use Rattle.font_common.proofs.Coverages.{fall_step}
 use Rattle.font_common.proofs.coverage.read_listed.Goals as goal
+use Rattle.buffer_facts.proofs.Lists.{one_done}
 
 pub loop-index-preserved : goal.loop-index-preserved
 loop-index-preserved c =

@@ -4,9 +4,9 @@ use Rattle.font_bytes.specs.Words.{word}
 use Rattle.font_bytes.specs.Records.{records}
 use Rattle.font_bytes.proofs.Recorded.{records_more}
 use Rattle.font_common.specs.Rows.{word_row}
-use Rattle.font_common.proofs.Coverages.{one_done}
 use Rattle.font_common.proofs.Covered.{covered_more, covered_end}
 use Rattle.font_common.proofs.words.read_word_rows.Goals as goal
+use Rattle.buffer_facts.proofs.Lists.{one_done}
 
 pub loop-index-preserved : goal.loop-index-preserved
 loop-index-preserved c =

@@ -1,9 +1,9 @@
 use Rattle.std.proofs.Common.{◌+◌, ◌-◌, ℕ, arith}
 use Rattle.std.proofs.lemmas.Grind.{common_steps}
 use Rattle.font_bytes.proofs.Recorded.{records_none}
-use Rattle.font_common.proofs.Coverages.{one_done}
 use Rattle.font_kern.proofs.Listed.{number_more}
 use Rattle.font_kern.proofs.classes.all_glyphs.Goals as goal
+use Rattle.buffer_facts.proofs.Lists.{one_done}
 
 pub loop-glyph-preserved : goal.loop-glyph-preserved
 loop-glyph-preserved c =

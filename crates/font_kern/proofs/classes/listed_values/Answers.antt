@@ -1,8 +1,8 @@
 use Rattle.std.proofs.Common.{◌+◌, ◌*◌, ◌-◌, arith}
 use Rattle.std.proofs.lemmas.Grind.{common_steps}
-use Rattle.font_common.proofs.Coverages.{one_done}
 use Rattle.font_kern.proofs.Listed.{listed_more, listed_end}
 use Rattle.font_kern.proofs.classes.listed_values.Goals as goal
+use Rattle.buffer_facts.proofs.Lists.{one_done}
 
 pub loop-index-preserved : goal.loop-index-preserved
 loop-index-preserved c =

@@ -1,8 +1,8 @@
 use Rattle.std.proofs.Common.{◌+◌, ℕ, arith}
 use Rattle.std.proofs.lemmas.Grind.{common_steps}
 use Rattle.font_bytes.proofs.Recorded.{records_more, records_end}
-use Rattle.font_common.proofs.Coverages.{one_done}
 use Rattle.font_kern.proofs.lookups.kern_feature.Goals as goal
+use Rattle.buffer_facts.proofs.Lists.{one_done}
 
 pub loop-each-preserved : goal.loop-each-preserved
 loop-each-preserved c =

@@ -1,8 +1,8 @@
 use Rattle.std.proofs.Common.{◌≡◌, None, arith}
 use Rattle.std.proofs.lemmas.Grind.{common_steps}
 use Rattle.font_common.specs.Rows.{first_rows}
-use Rattle.font_kern.proofs.Kept.{kept_rise}
 use Rattle.font_kern.proofs.order.rising_only.Goals as goal
+use Rattle.font_common.proofs.Firsts.{first_rows_rise as kept_rise}
 
 pub returns-clause-rising : goal.returns-clause-rising
 returns-clause-rising g c =

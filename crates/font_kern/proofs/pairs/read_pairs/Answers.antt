@@ -1,9 +1,9 @@
 use Rattle.std.proofs.Common.{◌+◌, arith}
 use Rattle.std.proofs.lemmas.Grind.{common_steps}
 use Rattle.font_bytes.proofs.Recorded.{records_more, records_end}
-use Rattle.font_common.proofs.Coverages.{one_done}
 use Rattle.font_kern.specs.Pairs.{pair_row}
 use Rattle.font_kern.proofs.pairs.read_pairs.Goals as goal
+use Rattle.buffer_facts.proofs.Lists.{one_done}
 
 pub loop-index-preserved : goal.loop-index-preserved
 loop-index-preserved c =

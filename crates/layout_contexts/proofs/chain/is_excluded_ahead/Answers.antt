@@ -7,9 +7,10 @@ use Rattle.layout_match.specs.Searches.{is_in_syllable}
 use Rattle.layout_match.specs.Sequences.{test_at}
 use Rattle.layout_contexts.specs.Fitting.{chain_of}
 use Rattle.layout_contexts.proofs.Followed.{second_never}
-use Rattle.layout_contexts.proofs.Beside.{is_seen, fails_ahead, fails_at_end, second_of_input, first_of_lookahead, second_of_any, of_other_syllable, of_other_mask, of_other_test, not_true}
+use Rattle.layout_contexts.proofs.Beside.{is_seen, fails_ahead, fails_at_end, second_of_input, first_of_lookahead, second_of_any, of_other_syllable, of_other_mask, of_other_test}
 use Rattle.layout_contexts.proofs.chain.is_excluded_ahead.Goals as goal
 use Rattle.layout_contexts.proofs.chain.is_excluded_ahead.Goals.{else-inputs-le1-via-then-inputs-le1+else-len-eq0, else-inputs-le1-via-else-inputs-le1}
+use Rattle.buffer_facts.proofs.Truth.{false_by_not as not_true}
 
 -- no glyph is there
 pub returns-then-lookahead_len-lt2 : goal.returns-then-lookahead_len-lt2

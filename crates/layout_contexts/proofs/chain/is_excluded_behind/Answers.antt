@@ -7,8 +7,9 @@ use Rattle.layout_match.specs.Searches.{is_in_syllable}
 use Rattle.layout_match.specs.Sequences.{test_at}
 use Rattle.layout_contexts.specs.Fitting.{chain_of}
 use Rattle.layout_contexts.proofs.Followed.{behind_never}
-use Rattle.layout_contexts.proofs.Beside.{is_seen, fails_behind, fails_at_start, of_other_syllable, of_other_test, not_true}
+use Rattle.layout_contexts.proofs.Beside.{is_seen, fails_behind, fails_at_start, of_other_syllable, of_other_test}
 use Rattle.layout_contexts.proofs.chain.is_excluded_behind.Goals as goal
+use Rattle.buffer_facts.proofs.Truth.{false_by_not as not_true}
 
 -- no glyph is there
 pub returns-then-out_len-eq0 : goal.returns-then-out_len-eq0

@@ -16,6 +16,7 @@ use Rattle.buffer_core.specs.Sides.{zero_positions}
 use Rattle.script_arabic.proofs.Plainly.{kept_between}
 use Rattle.script_thai.specs.ThaiVowel.{count_above, split_events, events_of_character, events_of_vowel, is_sara_am, nikhahit, move_of_vowel, sara_aa, text_with_splits, vowel_rule, vowels_decomposed, vowels_split, with_character, with_vowel}
 use Rattle.script_syllabic.specs.Graphemes.{merge_of, merges_by, with_graphemes_merged}
+use Rattle.script_thai.proofs.Vowel.{vowel_long}
 
 merge_steady : (at n : ℕ) → AreSteady (merge_of at n)
 merge_steady at n = elim (n == 0) as (λ t. AreSteady (if t then [] else MergeGrapheme at (at + n) ∷ StrictBreak at (at + n) ∷ [])) [ true ↦ tt | false ↦ tt ]
@@ -30,17 +31,6 @@ merged_keeps_plainly rule = always_plainly (with_graphemes_merged rule) (λ v le
 
 placing_steady : (at n : ℕ) → AreSteady (move_of_vowel at n)
 placing_steady at n = elim (n == 0) as (λ t. AreSteady (if t then [] else Move InOutput (at - n) (order_of_move n 1) ∷ [])) [ true ↦ tt | false ↦ tt ]
-
--- a vowel becomes two items
-vowel_long : (out : List Item) (x : Item) → length (with_vowel out x) ≡ length out + 2
-vowel_long out x =
-    let before = length out - count_above out in
-    let front = take before out in
-    let back = drop before out in
-    let a : length (with_vowel out x) ≡ length (front ++ (nikhahit x ∷ back)) + 1 = length-append (front ++ (nikhahit x ∷ back)) (sara_aa x ∷ []) in
-    let b : length (front ++ (nikhahit x ∷ back)) ≡ length front + suc (length back) = length-append front (nikhahit x ∷ back) in
-    let whole : length front + length back ≡ length out = sym (length-append front back) ∙ ap length (take-append-drop before out) in
-    omega (arith, a, b, whole)
 
 vowel_kept : (out : List Item) (x : Item) (n : ℕ) → ArePlainlyKept (events_of_vowel (length out) (count_above out)) (length out + suc n) (length (with_vowel out x) + n)
 vowel_kept out x n =

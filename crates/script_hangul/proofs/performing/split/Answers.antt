@@ -1,8 +1,8 @@
 use Rattle.std.proofs.Common.{length, arith}
-use Rattle.buffer_stages.proofs.Lemmas.Walked.{passed_on}
 use Rattle.script_hangul.proofs.Fits.{joined_there}
 use Rattle.script_hangul.proofs.Put.{joined_exceeds, pieces_ahead, split_alone, split_joined}
 use Rattle.script_hangul.proofs.performing.split.Goals as goal
+use Rattle.buffer_facts.proofs.Results.{passed_on}
 
 pub put_letter-requires : goal.put_letter-requires
 put_letter-requires c =

@@ -1,7 +1,7 @@
 use Rattle.std.proofs.Common.{sym, ◌∙◌}
-use Rattle.buffer_stages.proofs.Lemmas.Walked.{passed_on}
 use Rattle.script_thai.proofs.Vowels.{first_other, others_exceed, others_walked, vowel_exceeds, vowel_first}
 use Rattle.script_thai.proofs.thai_vowel.pass.Goals as goal
+use Rattle.buffer_facts.proofs.Results.{passed_on}
 
 pub returns-in_err-split-clause-err : goal.returns-in_err-split-clause-err
 returns-in_err-split-clause-err c =

@@ -1,7 +1,7 @@
 use Rattle.std.proofs.Common.{arith}
 use Rattle.shape_normalize.proofs.Advance.{advancing_begun, advancing_less, advancing_more, advancing_too_many}
-use Rattle.shape_normalize.proofs.Lemmas.Refusals.{passed_on}
 use Rattle.shape_normalize.proofs.expanding.expand_by_rows.Goals as goal
+use Rattle.buffer_facts.proofs.Results.{passed_on}
 
 pub loop-known-init : goal.loop-known-init
 loop-known-init g c = record { advancing = advancing_begun (g.N.Normalizing.normalizer c.args.by.now) c.args.buffer.now c.requires.open c.requires.given; known = c.requires.known }

@@ -1,6 +1,6 @@
 use Rattle.shape_normalize.proofs.Put.{pieces_brought, whole_brought, pieces_too_many, whole_too_many}
-use Rattle.shape_normalize.proofs.Lemmas.Refusals.{passed_on}
 use Rattle.shape_normalize.proofs.expanding.expand_current.Goals as goal
+use Rattle.buffer_facts.proofs.Results.{passed_on}
 
 pub returns-in_err-put_expansion-clause-err : goal.returns-in_err-put_expansion-clause-err
 returns-in_err-put_expansion-clause-err g c =

@@ -1,8 +1,8 @@
 use Rattle.std.proofs.Common.{arith}
 use Rattle.buffer_properties.specs.Expanding.{item_expansion}
 use Rattle.shape_normalize.proofs.Each.{each_more, each_too_many}
-use Rattle.shape_normalize.proofs.Lemmas.Refusals.{passed_on}
 use Rattle.shape_normalize.proofs.expanding.expand_each.Goals as goal
+use Rattle.buffer_facts.proofs.Results.{passed_on}
 
 pub expand_current-requires : goal.expand_current-requires
 expand_current-requires g c =

@@ -5,8 +5,8 @@ use Rattle.buffer_properties.specs.Normalizer.{reach_alone, reach_with_marks}
 use Rattle.buffer_properties.specs.declared.normal_mode.Reach.{Reach}
 use Rattle.buffer_stages.specs.Appending.{AppendsArrangement, RefusesRoomFor}
 use Rattle.shape_normalize.proofs.GroupWalk.{one_group, one_too_many, selected_group, selected_too_many, marked_group, marked_too_many}
-use Rattle.shape_normalize.proofs.Lemmas.Refusals.{passed_on}
 use Rattle.shape_normalize.proofs.expanding.expand_group.Goals as goal
+use Rattle.buffer_facts.proofs.Results.{passed_on}
 
 pub returns-in_err-expand_current-clause-err : goal.returns-in_err-expand_current-clause-err
 returns-in_err-expand_current-clause-err g c =

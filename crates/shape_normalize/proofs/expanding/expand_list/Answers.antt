@@ -1,6 +1,6 @@
 use Rattle.shape_normalize.proofs.Given.{given_too_many}
-use Rattle.shape_normalize.proofs.Lemmas.Refusals.{passed_on}
 use Rattle.shape_normalize.proofs.expanding.expand_list.Goals as goal
+use Rattle.buffer_facts.proofs.Results.{passed_on}
 
 pub returns-in_err-expand_given-clause-err : goal.returns-in_err-expand_given-clause-err
 returns-in_err-expand_given-clause-err g c =

@@ -1,7 +1,7 @@
 use Rattle.std.proofs.Common.{Ok, ap, ◌∙◌}
 use Rattle.shape_normalize.proofs.Advance.{group_passed, group_too_many, run_passed}
-use Rattle.shape_normalize.proofs.Lemmas.Refusals.{passed_on}
 use Rattle.shape_normalize.proofs.expanding.expand_next.Goals as goal
+use Rattle.buffer_facts.proofs.Results.{passed_on}
 
 pub returns-in_err-expand_group-clause-err : goal.returns-in_err-expand_group-clause-err
 returns-in_err-expand_group-clause-err g c =

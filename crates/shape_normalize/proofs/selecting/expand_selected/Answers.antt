@@ -1,7 +1,7 @@
 use Rattle.std.proofs.Common.{arith}
 use Rattle.shape_normalize.proofs.Selections.{selecting_begun, selecting_room, selecting_more, selecting_too_many, selecting_done, last_room, last_selecting_too_many}
-use Rattle.shape_normalize.proofs.Lemmas.Refusals.{passed_on}
 use Rattle.shape_normalize.proofs.selecting.expand_selected.Goals as goal
+use Rattle.buffer_facts.proofs.Results.{passed_on}
 
 pub loop-init : goal.loop-init
 loop-init g c = selecting_begun (g.N.Normalizing.normalizer c.args.by.now) c.args.marks c.args.buffer.now c.requires.open c.requires.there

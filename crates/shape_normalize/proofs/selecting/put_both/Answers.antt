@@ -1,8 +1,8 @@
 use Rattle.std.proofs.Common.{◌∙◌}
 use Rattle.std.specs.Prelude.{is_some}
 use Rattle.shape_normalize.proofs.Select.{both_brought, one_left, second_too_many}
-use Rattle.shape_normalize.proofs.Lemmas.Refusals.{passed_on}
 use Rattle.shape_normalize.proofs.selecting.put_both.Goals as goal
+use Rattle.buffer_facts.proofs.Results.{passed_on}
 
 pub put_unjoined-requires : goal.put_unjoined-requires
 put_unjoined-requires g c =

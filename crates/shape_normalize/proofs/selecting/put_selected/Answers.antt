@@ -1,6 +1,6 @@
 use Rattle.shape_normalize.proofs.Select.{pair_brought, pair_too_many, none_brought, none_too_many}
-use Rattle.shape_normalize.proofs.Lemmas.Refusals.{passed_on}
 use Rattle.shape_normalize.proofs.selecting.put_selected.Goals as goal
+use Rattle.buffer_facts.proofs.Results.{passed_on}
 
 pub returns-in_ok-join_selector-in-Some-clause-ok : goal.returns-in_ok-join_selector-in-Some-clause-ok
 returns-in_ok-join_selector-in-Some-clause-ok g c =

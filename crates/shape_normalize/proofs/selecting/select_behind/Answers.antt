@@ -1,7 +1,7 @@
 use Rattle.std.proofs.Common.{sym, ◌∙◌}
 use Rattle.shape_normalize.proofs.Select.{behind_waits, selector_met, met_too_many}
-use Rattle.shape_normalize.proofs.Lemmas.Refusals.{passed_on}
 use Rattle.shape_normalize.proofs.selecting.select_behind.Goals as goal
+use Rattle.buffer_facts.proofs.Results.{passed_on}
 
 pub returns-then-not-is_selector-clause-ok : goal.returns-then-not-is_selector-clause-ok
 returns-then-not-is_selector-clause-ok g c =

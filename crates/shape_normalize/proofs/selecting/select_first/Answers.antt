@@ -1,7 +1,7 @@
 use Rattle.std.proofs.Common.{sym, ◌∙◌}
 use Rattle.shape_normalize.proofs.Select.{first_waits, first_selector, first_too_many}
-use Rattle.shape_normalize.proofs.Lemmas.Refusals.{passed_on}
 use Rattle.shape_normalize.proofs.selecting.select_first.Goals as goal
+use Rattle.buffer_facts.proofs.Results.{passed_on}
 
 pub returns-then-not-is_selector-clause-ok : goal.returns-then-not-is_selector-clause-ok
 returns-then-not-is_selector-clause-ok g c = first_waits (g.N.Normalizing.normalizer c.args.by.now) c.cur.result.now c.args.buffer.now c.cur.ensures (sym c.is_selector.ensures ∙ c.if-not-is_selector.true)

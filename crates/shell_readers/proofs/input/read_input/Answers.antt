@@ -1,7 +1,7 @@
 use Rattle.shell_readers.specs.declared.fault.RunFault.{RunFault}
-use Rattle.shell_readers.proofs.Faults.{passed_on}
 use Rattle.shell_readers.proofs.Reading.{both_read, font_refused, tables_faulty}
 use Rattle.shell_readers.proofs.input.read_input.Goals as goal
+use Rattle.buffer_facts.proofs.Results.{passed_on}
 
 pub returns-in_err-tables-clause-refused : goal.returns-in_err-tables-clause-refused
 returns-in_err-tables-clause-refused c =

@@ -1,8 +1,8 @@
 use Rattle.std.proofs.Common.{Err, ap}
 use Rattle.shell_json.specs.declared.fault.JsonFault.{JsonFault}
-use Rattle.shell_readers.proofs.Faults.{passed_on}
 use Rattle.shell_readers.proofs.Reading.{rest_read, rows_refused}
 use Rattle.shell_readers.proofs.tables.read_all_tables.Goals as goal
+use Rattle.buffer_facts.proofs.Results.{passed_on}
 
 pub returns-in_err-characters-clause-refused : goal.returns-in_err-characters-clause-refused
 returns-in_err-characters-clause-refused c =

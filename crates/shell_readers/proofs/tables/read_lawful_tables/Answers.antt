@@ -1,8 +1,8 @@
 use Rattle.shell_readers.specs.declared.fault.RunFault.{RunFault}
 use Rattle.shell_readers.specs.Tables.{tables_value}
-use Rattle.shell_readers.proofs.Faults.{passed_on}
 use Rattle.shell_readers.proofs.Reading.{laws_refused, lawful_read, refused}
 use Rattle.shell_readers.proofs.tables.read_lawful_tables.Goals as goal
+use Rattle.buffer_facts.proofs.Results.{passed_on}
 
 pub returns-in_err-tables-clause-refused : goal.returns-in_err-tables-clause-refused
 returns-in_err-tables-clause-refused c =

@@ -1,7 +1,7 @@
 use Rattle.shell_readers.specs.Tables.{tables_value}
-use Rattle.shell_readers.proofs.Faults.{passed_on}
 use Rattle.shell_run.proofs.Printing.{lines_shaped, lines_unshaped}
 use Rattle.shell_run.proofs.answer.lines.Goals as goal
+use Rattle.buffer_facts.proofs.Results.{passed_on}
 
 pub returns-clause-ok : goal.returns-clause-ok
 returns-clause-ok c =

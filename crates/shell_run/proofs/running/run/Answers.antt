@@ -5,11 +5,11 @@ use Rattle.std.proofs.lemmas.Result.{IfErr-weaker}
 use Rattle.shell_readers.specs.declared.fault.RunFault.{RunFault}
 use Rattle.shell_readers.specs.declared.fault.RunFault.TheVariants.{OutOfMemory, Write}
 use Rattle.shell_readers.specs.Input.{IsInput, input_value}
-use Rattle.shell_readers.proofs.Faults.{passed_on}
 use Rattle.shell_run.specs.Answer.{IsAnswer}
 use Rattle.shell_run.specs.Run.{AppendsFront, OfAnswer, SomeBytes}
 use Rattle.shell_run.proofs.Runs.{no_read_limit, not_memory, of_answer, on_any_of_bytes, on_any_ok, on_known, on_ok, on_this, refused, some_bytes}
 use Rattle.shell_run.proofs.running.run.Goals as goal
+use Rattle.buffer_facts.proofs.Results.{passed_on}
 
 pub returns-in_err-input-clause-refused : goal.returns-in_err-input-clause-refused
 returns-in_err-input-clause-refused g c =

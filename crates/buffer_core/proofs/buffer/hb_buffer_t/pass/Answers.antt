@@ -3,10 +3,11 @@ use Rattle.std.proofs.Common.{◌≡◌, ◌≤◌, ◌+◌, true, length, take,
 use Rattle.std.proofs.lemmas.Grind.{common_steps}
 use Rattle.buffer_core.specs.Sides.{after_next_glyphs}
 use Rattle.buffer_core.proofs.Open.{along_view, order_passed, settled_open, sound_over}
-use Rattle.buffer_core.proofs.Room.{more_ahead, within}
+use Rattle.buffer_core.proofs.Room.{more_ahead}
 use Rattle.buffer_core.proofs.Slices.{all_put}
 use Rattle.buffer_core.proofs.buffer.hb_buffer_t.pass.Goals as goal
 use Rattle.buffer_core.proofs.Changed.{front_long, front_before as front_within}
+use Rattle.buffer_facts.proofs.Numbers.{at_most_by_test as within}
 
 pub returns-then-self : goal.returns-then-self
 returns-then-self c =

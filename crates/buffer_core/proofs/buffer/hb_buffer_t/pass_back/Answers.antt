@@ -2,10 +2,10 @@ use Rattle.std.specs.Vec.{with_items}
 use Rattle.std.proofs.Common.{◌≡◌, ◌≤◌, ◌-◌, ◌+◌, true, length, take, drop, refl, rules, arith, ap, ◌∙◌}
 use Rattle.std.proofs.lemmas.Grind.{common_steps}
 use Rattle.buffer_core.proofs.Open.{backed_sound, order_backed, settled_open}
-use Rattle.buffer_core.proofs.Room.{within}
 use Rattle.buffer_core.proofs.Slices.{all_put}
 use Rattle.buffer_core.proofs.buffer.hb_buffer_t.pass_back.Goals as goal
 use Rattle.buffer_core.proofs.Changed.{front_long}
+use Rattle.buffer_facts.proofs.Numbers.{at_most_by_test as within}
 
 pub invariant_of-self : goal.invariant_of-self
 invariant_of-self c =

@@ -3,10 +3,11 @@ use Rattle.std.proofs.Common.{◌≡◌, ◌<◌, ◌+◌, true, length, take, d
 use Rattle.std.proofs.lemmas.Grind.{common_steps}
 use Rattle.buffer_glyphs.specs.declared.info.hb_glyph_info_t.{hb_glyph_info_t}
 use Rattle.buffer_core.proofs.Open.{order_numbered, settled_open, sound_over}
-use Rattle.buffer_core.proofs.Room.{some_ahead, within}
+use Rattle.buffer_core.proofs.Room.{some_ahead}
 use Rattle.buffer_core.proofs.Slices.{all_put}
 use Rattle.buffer_core.proofs.buffer.hb_buffer_t.pass_renumbered.Goals as goal
 use Rattle.buffer_core.proofs.Changed.{front_long, front_before as front_within}
+use Rattle.buffer_facts.proofs.Numbers.{at_most_by_test as within}
 
 pub invariant_of-self : goal.invariant_of-self
 invariant_of-self c =

@@ -6,10 +6,10 @@ use Rattle.buffer_core.specs.Merging.{with_output_glyph}
 use Rattle.buffer_core.specs.Inside.{IsSound}
 use Rattle.buffer_lists.proofs.Ordered.{order_copied}
 use Rattle.buffer_core.proofs.Open.{copies_view, end_of_copies, has_left, moved_on, moved_view, settled_open, sound_moved, sound_over}
-use Rattle.buffer_core.proofs.Room.{within}
 use Rattle.buffer_core.proofs.Slices.{all_put}
 use Rattle.buffer_core.proofs.buffer.hb_buffer_t.put_copy.Goals as goal
 use Rattle.buffer_core.proofs.Changed.{front_long, front_before as front_within}
+use Rattle.buffer_facts.proofs.Numbers.{at_most_by_test as within}
 
 pub invariant_of-self-2 : goal.invariant_of-self-2
 invariant_of-self-2 c =

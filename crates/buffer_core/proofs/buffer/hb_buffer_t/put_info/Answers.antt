@@ -3,10 +3,10 @@ use Rattle.std.proofs.Common.{◌≡◌, ◌+◌, true, length, take, drop, refl
 use Rattle.std.proofs.lemmas.Grind.{common_steps}
 use Rattle.buffer_core.specs.Inside.{IsSound}
 use Rattle.buffer_core.proofs.Open.{moved_on, order_put, settled_open, sound_moved, sound_over}
-use Rattle.buffer_core.proofs.Room.{within}
 use Rattle.buffer_core.proofs.Slices.{all_put}
 use Rattle.buffer_core.proofs.buffer.hb_buffer_t.put_info.Goals as goal
 use Rattle.buffer_core.proofs.Changed.{front_long}
+use Rattle.buffer_facts.proofs.Numbers.{at_most_by_test as within}
 
 pub invariant_of-self-2 : goal.invariant_of-self-2
 invariant_of-self-2 c =

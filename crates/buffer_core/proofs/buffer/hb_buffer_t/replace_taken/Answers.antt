@@ -6,10 +6,11 @@ use Rattle.buffer_core.specs.Inside.{IsSound}
 use Rattle.buffer_core.specs.Merging.{with_has_glyph_flags, with_replaced}
 use Rattle.buffer_core.specs.Sides.{requests_breaks}
 use Rattle.buffer_core.proofs.Open.{end_of_replaced, has_left, moved_on, moved_view, replaced_view, settled_open, sound_moved, sound_over}
-use Rattle.buffer_core.proofs.Room.{more_ahead, within}
+use Rattle.buffer_core.proofs.Room.{more_ahead}
 use Rattle.buffer_core.proofs.Slices.{all_put}
 use Rattle.buffer_core.proofs.buffer.hb_buffer_t.replace_taken.Goals as goal
 use Rattle.buffer_core.proofs.Changed.{front_long, front_before as front_within}
+use Rattle.buffer_facts.proofs.Numbers.{at_most_by_test as within}
 
 pub replace_first-marked-requires-clause-known : goal.replace_first-marked-requires-clause-known
 replace_first-marked-requires-clause-known c =

@@ -1,7 +1,7 @@
 use Rattle.std.proofs.Common.{None, ◌||◌, refl, sym, ◌∙◌}
 use Rattle.buffer_lists.proofs.Passing.{passed_without, walk_without, front_deletes}
 use Rattle.buffer_lists.proofs.deletion_within.walk.delete_glyph.Goals as goal
-use Rattle.buffer_lists.proofs.Lemmas.Turned.{or_false}
+use Rattle.buffer_facts.proofs.Truth.{or_false}
 
 pub returns-then-walk-eq0 : goal.returns-then-walk-eq0
 returns-then-walk-eq0 c =

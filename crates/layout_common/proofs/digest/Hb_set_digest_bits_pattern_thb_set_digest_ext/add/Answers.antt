@@ -1,7 +1,8 @@
 use Rattle.std.proofs.Common.{◌==◌, ◌||◌, ap, ◌∙◌}
 use Rattle.layout_common.specs.Buckets.{bucket, has_bucket}
-use Rattle.layout_common.proofs.Bits.{one_added, added_there, old_stays, same_bucket}
+use Rattle.layout_common.proofs.Bits.{one_added, added_there, old_stays}
 use Rattle.layout_common.proofs.digest.Hb_set_digest_bits_pattern_thb_set_digest_ext.add.Goals as goal
+use Rattle.buffer_facts.proofs.Numbers.{test_of_itself as same_bucket}
 
 pub returns-clause-buckets : goal.returns-clause-buckets
 returns-clause-buckets g c b = c.with_bucket-self.ensures b ∙ ap (λ k. has_bucket c.args.self.now.mask b || b == k) c.bucket.ensures.is

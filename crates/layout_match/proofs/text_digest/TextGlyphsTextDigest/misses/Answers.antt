@@ -4,10 +4,7 @@ use Rattle.buffer_stages.specs.Masks.{shares_mask}
 use Rattle.layout_match.proofs.Lemmas.Held.{glyphs_missed, masks_missed}
 use Rattle.layout_match.proofs.Lemmas.Met.{missed}
 use Rattle.layout_match.proofs.text_digest.TextGlyphsTextDigest.misses.Goals as goal
-
-not_true : (b : Bool) → not b ≡ true → b ≡ false
-not_true false e = refl
-not_true true e = cc
+use Rattle.buffer_facts.proofs.Truth.{false_by_not as not_true}
 
 pub returns-then-not-may_share-clause-misses : goal.returns-then-not-may_share-clause-misses
 returns-then-not-may_share-clause-misses g c _ = masks_missed _ c.args.mask (g.S.Covers.covers c.args.subtables.now) (items_of c.args.buffer.now) c.collect.ensures.1 (sym c.may_share.ensures ∙ c.if-not-may_share.true)

@@ -1,8 +1,9 @@
 use Rattle.std.proofs.Common.{SFits, ap, refl, sym, w32, ◌∙◌}
 use Rattle.std.proofs.lemmas.Int.{to_z-of_z}
 use Rattle.shape_pipeline.proofs.Budget.{budget_followed, budget_refused, budget_refused_late, some_left, within_followed, within_refused, within_refused_last, within_refused_then}
-use Rattle.shape_pipeline.proofs.Phases.{before_followed, before_refused, before_refused_last, before_refused_then, passed_on}
+use Rattle.shape_pipeline.proofs.Phases.{before_followed, before_refused, before_refused_last, before_refused_then}
 use Rattle.shape_pipeline.proofs.shape_stages.ShapeStages.budget_left.Goals as goal
+use Rattle.buffer_facts.proofs.Results.{passed_on}
 
 pub returns-clause-ok : goal.returns-clause-ok
 returns-clause-ok g c =

@@ -1,9 +1,10 @@
 use Rattle.std.proofs.Common.{refl, ◌∙◌}
 use Rattle.shape_pipeline.proofs.Lemmas.Chains.{done_followed}
 use Rattle.shape_pipeline.proofs.Numbers.{result_of}
-use Rattle.shape_pipeline.proofs.Phases.{after_followed, after_refused, after_refused_last, after_refused_then, before_followed, before_refused, before_refused_last, before_refused_then, passed_on}
+use Rattle.shape_pipeline.proofs.Phases.{after_followed, after_refused, after_refused_last, after_refused_then, before_followed, before_refused, before_refused_last, before_refused_then}
 use Rattle.shape_pipeline.proofs.Whole.{reading_followed, reading_refused, reading_refused_late}
 use Rattle.shape_pipeline.proofs.shape_stages.ShapeStages.shape_internal.Goals as goal
+use Rattle.buffer_facts.proofs.Results.{passed_on}
 
 pub returns-clause-ok : goal.returns-clause-ok
 returns-clause-ok g c =

@@ -1,0 +1,5 @@
+pub mod Truth
+pub mod Numbers
+pub mod Lists
+pub mod Bits
+pub mod Results
