@@ -1,18 +1,19 @@
 """What build and build_library share: their words, and building where it is not done yet."""
 
 import argparse
+import contextlib
 import sys
-from typing import Any, Callable
+from typing import Any, Callable, Sequence
 
 from building.gate import Failure
 from building.kit import Kit, find_kit
-from building.places import Place
+from building.places import Place, lines_of
 from building.progress import Teller, end_by_exit
 from building.unproved import make_unproved
 from common.parsing import Words
 
-# Makes a proved target: with the kit, how many checks at once, who tells, and a file that is locked meanwhile.
-Make = Callable[[Place, Kit, int | None, Teller, int], Failure | None]
+# Makes proved targets: with the kit, how many checks at once, who tells, and a file that is locked meanwhile.
+Make = Callable[[list[Place], Kit, int | None, Teller, int], Failure | None]
 
 
 class BuildWords(Words):
@@ -22,10 +23,15 @@ class BuildWords(Words):
         super().error(f"{message} (tools/{self.prog} --help)")
 
 
-def read_words(name: str, about: str, examples: str, words: list[str]) -> argparse.Namespace:
-    """The words of a build."""
+def read_words(
+    name: str, about: str, examples: str, words: list[str], programs: Sequence[str] = ()
+) -> argparse.Namespace:
+    """The words of a build, which may name some of these programs."""
     layout = argparse.RawDescriptionHelpFormatter
     parser = BuildWords(prog=name, description=about, epilog=examples, formatter_class=layout)
+    if programs:
+        listed = ", ".join(programs)
+        parser.add_argument("programs", nargs="*", metavar="PROGRAM", help=f"{listed} (all of these without it)")
     jobs = "how many checks run at once, whatever memory is free (as many as processors and memory allow)"
     parser.add_argument("--jobs", type=positive, metavar="N", help=jobs)
     parser.add_argument("--unproved", action="store_true", help="compile without proofs, into out/unproved")
@@ -33,6 +39,9 @@ def read_words(name: str, about: str, examples: str, words: list[str]) -> argpar
     parser.add_argument("--measured", action="store_true", help=measured)
     parser.add_argument("--list", action="store_true", help="build nothing, and list what would be built")
     options = parser.parse_args(words)
+    for program in options.programs if programs else ():
+        if program not in programs:
+            parser.error(f"{program}: no program; {listed} are programs")
     if options.unproved and options.jobs:
         parser.error("--jobs: nothing is proved with --unproved")
     if options.measured and not options.unproved:
@@ -46,34 +55,41 @@ def positive(text: str) -> int:
     return int(text)
 
 
-def list_crates(place: Place) -> int:
-    lines = place.lines()
+def list_crates(places: list[Place]) -> int:
+    lines = lines_of(places)
     for line in lines.values():
         print(line)
     print(f"{len(lines)} crates")
     return 0
 
 
-def build(name: str, place: Place, jobs: int | None, make: Make) -> int:
-    """Builds where what stands there is of other sources; its status is 1 where a crate did not pass."""
+def build(name: str, places: list[Place], jobs: int | None, make: Make) -> int:
+    """Builds what stands there of other sources; its status is 1 where a crate did not pass."""
     kit, teller = find_kit(), Teller(name)
-    if not place.is_built(kit.line):
+    waiting = [place for place in places if not place.is_built(kit.line)]
+    if waiting:
         end_by_exit()
-        failure = make_new(place, kit, jobs, teller, make) if place.is_proved else make_unproved(place, teller)
+        failure = make_new(waiting, kit, jobs, teller, make)
         if failure is not None:
-            return tell_failure(name, place, failure)
+            return tell_failure(name, waiting[0], failure)
         teller.line(f"done in {teller.clock()}")
-    for path in place.files:
-        print(f"built {path.relative_to(place.root)}")
-    if not place.is_proved:
-        teller.line(f"unproved: no proof was checked ({place.target.tool} proves it)")
+    for path in (path for place in places for path in place.files):
+        print(f"built {path.relative_to(places[0].root)}")
+    if not places[0].is_proved:
+        teller.line(f"unproved: no proof was checked ({places[0].target.tool} proves it)")
     return 0
 
 
-def make_new(place: Place, kit: Kit, jobs: int | None, teller: Teller, make: Make) -> Failure | None:
-    with place.alone(teller.tool) as held:
+def make_new(waiting: list[Place], kit: Kit, jobs: int | None, teller: Teller, make: Make) -> Failure | None:
+    """Makes what was not built: the proved ones by one gate over all their crates, the others one after another."""
+    if not waiting[0].is_proved:
+        failures = (make_unproved(place, teller) for place in waiting)
+        return next((failure for failure in failures if failure is not None), None)
+    with contextlib.ExitStack() as stack:
+        held = [stack.enter_context(place.alone(teller.tool)) for place in waiting]
         # Another build may have ended meanwhile.
-        return None if place.is_built(kit.line) else make(place, kit, jobs, teller, held)
+        left = [place for place in waiting if not place.is_built(kit.line)]
+        return make(left, kit, jobs, teller, held[0]) if left else None
 
 
 def tell_failure(name: str, place: Place, failure: Failure) -> int:

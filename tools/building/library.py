@@ -30,13 +30,14 @@ def main(words: list[str], root: Path = ROOT) -> int:
     options = read_words(NAME, ABOUT, EXAMPLES, words)
     place = Place(LIBRARY, not options.unproved, root, options.measured)
     if options.list:
-        return list_crates(place)
+        return list_crates([place])
     need_commands("rt", "gcc", "ld", "objcopy", "ar")
-    return build(NAME, place, options.jobs, make_proved)
+    return build(NAME, [place], options.jobs, make_proved)
 
 
-def make_proved(place: Place, kit: Kit, jobs: int | None, teller: Teller, held: int) -> Failure | None:
+def make_proved(places: list[Place], kit: Kit, jobs: int | None, teller: Teller, held: int) -> Failure | None:
     """Proves the crates by the gate, and builds over the libraries that it leaves."""
+    [place] = places
     root, lines, crate = place.root, place.lines(), place.target.crate
     with new_tree(place.tree_note, crate) as tree:
         lay_tree(root, tree, lines)

@@ -25,16 +25,20 @@ TESTS = "tests"
 
 @dataclass(frozen=True)
 class Target:
-    """What is built of a crate: files, and the tool that builds them."""
+    """What is built of a crate: files, and the tool that builds them. A program has words with which it comes to its
+    files."""
 
     name: str
     crate: str
     files: tuple[str, ...]
     tool: str
     kind: str = "program"
+    words: tuple[str, ...] = ("tables", "font", "text")
 
 
 PROGRAM = Target("hb_shape", "hb_shape", ("hb_shape",), BUILD)
+KUSPVELI = Target("kuspveli", "kuspveli_program", ("kuspveli",), BUILD, words=("font", "text"))
+PROGRAMS = (PROGRAM, KUSPVELI)
 TRIALS = Target("shape_trials", "shape_trials", ("shape_trials",), FUZZ)
 LIBRARY = Target("libkuspveli", "kuspveli_c", ("libkuspveli.a", "libkuspveli.so"), BUILD_LIBRARY, "library")
 
@@ -152,6 +156,11 @@ class Place:
 
 def sums_of(paths: list[Path]) -> dict[str, str]:
     return {path.name: hashlib.sha256(path.read_bytes()).hexdigest() for path in paths}
+
+
+def lines_of(places: list[Place]) -> dict[str, str]:
+    """The lines of crates.txt, in its order, of the crates that these targets are built of."""
+    return needed_lines(places[0].root, *(place.target.crate for place in places))
 
 
 def standing(target: Target, root: Path = ROOT) -> Place:

@@ -14,14 +14,14 @@ from sources.crates import ROOT
 GATE = "rt ci"
 
 
-def is_ready(root: Path = ROOT) -> bool:
+def is_ready(target: Target = PROGRAM, root: Path = ROOT) -> bool:
     """Whether a program of the sources that stand here is there."""
-    return any(Place(PROGRAM, is_proved, root).is_current() for is_proved in (True, False))
+    return any(Place(target, is_proved, root).is_current() for is_proved in (True, False))
 
 
-def ready_program(name: str, root: Path = ROOT) -> Path:
-    """The program of the sources that stand here."""
-    return ready_place(name, PROGRAM, root).file
+def ready_program(name: str, root: Path = ROOT, target: Target = PROGRAM) -> Path:
+    """A program of the sources that stand here."""
+    return ready_place(name, target, root).file
 
 
 def ready_place(name: str, target: Target, root: Path = ROOT) -> Place:

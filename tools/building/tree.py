@@ -46,9 +46,10 @@ def clear_left(note: Path, start: str) -> None:
             clear(left)
 
 
-def needed_lines(root: Path, crate: str) -> dict[str, str]:
-    """The lines of crates.txt, as they stand, of a crate and those that it is built on, by their names."""
-    wanted = set(all_needs(crate, read_crates(root)))
+def needed_lines(root: Path, *crates: str) -> dict[str, str]:
+    """The lines of crates.txt, as they stand, of crates and those that they are built on, by their names."""
+    listed = read_crates(root)
+    wanted = {needed for crate in crates for needed in all_needs(crate, listed)}
     lines: dict[str, str] = {}
     for line in (root / LIST).read_text(encoding="utf-8").splitlines():
         for name in line.split("#")[0].partition(":")[0].split()[:1]:

@@ -40,12 +40,14 @@ class Progress:
         self.name = name
         self.stream = stream or sys.stderr
         self.shown = self.stream.isatty()
+        # What is done now, for a fault of it.
+        self.now = ""
 
     def step(self, what: str, done: int = 0, of: int = 0) -> None:
         """Tells what is done now, and how much of it."""
+        self.now = f"{what} {done} of {of}" if of else what
         if self.shown:
-            part = f" {done} of {of}" if of else ""
-            self.stream.write(f"\r\x1b[K{self.name}: {what}{part}")
+            self.stream.write(f"\r\x1b[K{self.name}: {self.now}")
             self.stream.flush()
 
     def end(self) -> None:

@@ -5,7 +5,7 @@ import shutil
 import sys
 from pathlib import Path
 
-from building.places import LIBRARY, PROGRAM, Place
+from building.places import KUSPVELI, LIBRARY, PROGRAM, Place
 from building.progress import end_by_exit
 from common.faults import FILES, ToolFault
 from common.parsing import Words
@@ -15,8 +15,8 @@ from installing.placing import SUMS, place_all, remove_all
 from sources.crates import ROOT
 
 NAME = "install"
-ABOUT = f"""Puts below PREFIX what is built: the commands {', '.join(COMMANDS)}
-into bin, the library for C into lib, include and lib/pkgconfig, and program, tools and tables into lib/kuspveli. A
+ABOUT = f"""Puts below PREFIX what is built: the commands {', '.join((KUSPVELI.name, *COMMANDS))}
+into bin, the library for C into lib, include and lib/pkgconfig, and programs, tools and tables into lib/kuspveli. A
 file that is there and that it did not put there is refused, and then nothing is changed; done again it replaces what
 it put there before. {SUMS} has what it put there with its sums, and --uninstall removes
 exactly that. It takes gcc, for a shared library with a version."""
@@ -37,7 +37,7 @@ def main(words: list[str]) -> int:
     check_prefix(prefix)
     if not shutil.which("gcc"):
         raise ToolFault(FILES, "the command gcc is not on the path, and no shared library is linked without it")
-    places = [Place(target, not options.unproved, ROOT) for target in (PROGRAM, LIBRARY)]
+    places = [Place(target, not options.unproved, ROOT) for target in (PROGRAM, LIBRARY, KUSPVELI)]
     for place in places:
         check_built(place)
     entries = layout(ROOT, prefix, *places)

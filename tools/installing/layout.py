@@ -31,8 +31,8 @@ UNSAID = re.compile(r"[\n\r$()]")
 # A folder of tools that no tool imports.
 GRAMMARS = "machines"
 
-def layout(root: Path, prefix: Path, program: Place, library: Place) -> Entries:
-    """All entries by their paths below the prefix."""
+def layout(root: Path, prefix: Path, program: Place, library: Place, *own: Place) -> Entries:
+    """All entries by their paths below the prefix; `own` are the programs that are commands themselves."""
     number = version()
     entries = {f"bin/{name}": Entry(link=f"../{OWN}/tools/{tool}") for name, tool in COMMANDS.items()}
     entries["include/kuspveli.h"] = entry_of(root / "include" / "kuspveli.h")
@@ -40,7 +40,19 @@ def layout(root: Path, prefix: Path, program: Place, library: Place) -> Entries:
     entries["lib/pkgconfig/kuspveli.pc"] = Entry(pkg_config(prefix, number, library.is_proved), 0o644)
     for path in (*tool_files(root / "tools"), *(root / name for name in (*DATA, *BINDING)), program.file, program.stamp_file):
         entries[f"{OWN}/{path.relative_to(root)}"] = entry_of(path)
+    for place in own:
+        entries |= own_entries(root, place)
     return entries
+
+
+def own_entries(root: Path, place: Place) -> Entries:
+    """A program with its stamp, and the command that it is: the program itself where it is proved, else the tool that
+    says at each use that it isn't."""
+    name = place.target.name
+    files = (place.file, place.stamp_file, root / "tools" / name)
+    entries = {f"{OWN}/{path.relative_to(root)}": entry_of(path) for path in files}
+    called = place.file if place.is_proved else root / "tools" / name
+    return entries | {f"bin/{name}": Entry(link=f"../{OWN}/{called.relative_to(root)}")}
 
 
 def entry_of(path: Path) -> Entry:

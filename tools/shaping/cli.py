@@ -1,35 +1,24 @@
 """The command line of shape."""
 
-import json
 import sys
 from dataclasses import replace
 from pathlib import Path
-from typing import Any
+from typing import Callable
 
+from building.places import KUSPVELI
 from building.ready import ready_program
 from common.faults import DATA, SHAPING, WORDS, ToolFault
 from common.files import check_regular, write_file
-from common.notes import Notes, Progress
 from common.printing import emit, emit_bytes, naming, tell
-from fontjson.cli import instance_of, read_font
-from fontjson.keep import Kept
 from fontjson.variations import Place
-from formats.named import FONT, KEY, format_fault
-from formats.where import font_fault, tables_fault
-from shaping.cache import TOOLS, cache_folder, cached, fingerprint, font_name, part_of
-from shaping.glyphs import as_json, read_line, with_names
+from formats.sfnt import is_font_file
+from shaping.glyphs import as_json, clean_lines, read_line, with_names
 from shaping.locales import locale_language
 from shaping.options import NAME, Given, read_words, usage
 from shaping.program import Line, Shaped, shape_texts, told
+from shaping.sources import Converted, FontFile, Source, is_json
 from shaping.texts import Text, Texts, lack_notes, read_texts, unshown
-from unicodejson.cli import DEBIAN, MAKERS, make_tables
 
-# What is made of a font and, where Debian's unicode-data is there, of the Unicode Character Database.
-FONT_READ = Kept()
-TABLES_READ = list(MAKERS) if (DEBIAN / "UnicodeData.txt").is_file() else []
-# The tables that come with the tools, for machines without that package.
-SHIPPED = TOOLS.parent / "data" / "tables.json"
-JSON_FONT = ".json"
 NUMBERS = "--no-glyph-names"
 PICTURES = ("svg", "png")
 CONTEXT = ("text-before", "text-after")
@@ -50,21 +39,45 @@ def main(words: list[str]) -> int:
     if given.own.get("text-file") == STANDARD_INPUT and sys.stdin.isatty():
         tell(NAME, "reading texts from standard input, one a line")
     texts = read_texts(given)
-    with cache_folder() as folder:
-        place = tell_place(given)
-        font = font_file(folder, given, place)
-        program = ready_program(NAME)
-        tables = tables_file(folder)
-        if "verbose" in given.own:
-            tell(NAME, which_tables(tables))
-        shaped = shape(program, tables, font, texts, given)
-        if shaped.status == DATA and heal(folder, given, place, tables, font):
-            shaped = shape(program, tables, font, texts, given)
-        if "verify" in given.own:
-            verify(program, shaped.lines, given, tables, font)
-        if pictures_of(given):
-            draw(whole_lines(program, shaped, texts, given, tables, font), given, place)
-        return show(shaped, texts, given, tables, font)
+    if is_read_by_program(given):
+        file = FontFile(ready_program(NAME, target=KUSPVELI), given.font, given.font_index)
+        return shape_and_show(file, texts, given)
+    return shape_converted(texts, given)
+
+
+def shape_converted(texts: Texts, given: Given) -> int:
+    """Shapes in a font that is converted, with tables that are made or come with the tools."""
+    from shaping import converting  # it takes longer to read in than a word to shape
+
+    with converting.cache_folder() as folder:
+        place = converting.tell_place(given)
+        font = converting.font_file(folder, given, place)
+        tables = converting.tables_file(folder)
+        source = Converted(ready_program(NAME), tables, font, converting.whence(tables))
+        return shape_and_show(source, texts, given, place, lambda: converting.heal(folder, given, place, source))
+
+
+def is_read_by_program(given: Given) -> bool:
+    """Whether the program kuspveli reads the font file itself: not an instance of a variable font, a compressed font or
+    a value, and not where the library is needed, or limits are lifted, which the program doesn't have."""
+    is_other = given.instance or "no-limits" in given.own or any(option in given.own for option in CONTEXT)
+    return not (is_other or is_json(given.font)) and is_font_file(given.font)
+
+
+def shape_and_show(
+    source: Source, texts: Texts, given: Given, place: Place | None = None, heal_files: Callable[[], bool] = bool
+) -> int:
+    """Shapes, draws and prints; kept files that the program refuses are made anew once."""
+    if "verbose" in given.own:
+        tell(NAME, source.tables_note)
+    shaped = shape(source, texts, given)
+    if shaped.status == DATA and heal_files():
+        shaped = shape(source, texts, given)
+    if "verify" in given.own:
+        verify(source, shaped.lines, given)
+    if pictures_of(given):
+        draw(whole_lines(source, shaped, texts, given), given, place)
+    return show(shaped, source, texts, given)
 
 
 def check_words(given: Given) -> None:
@@ -84,71 +97,64 @@ def take_locale(given: Given) -> None:
         given.program.append(f"--language={language}")
 
 
-def tell_place(given: Given) -> Place | None:
-    """Where the wanted instance of a variable font is; tells which coordinates are outside their axis."""
-    place, outside = instance_of(str(given.font), font_index(given), given.instance, not given.has("no-limits"))
-    for line in outside:
-        tell(NAME, f"{given.font}: {line}")
-    return place
-
-
-def shape(program: Path, tables: Path, font: Path, texts: Texts, given: Given) -> Shaped:
-    """The lines of all texts, with glyphs by their numbers."""
-    if any(option in given.own for option in CONTEXT):
+def shape(source: Source, texts: Texts, given: Given, is_numbered: bool = False) -> Shaped:
+    """The lines of all texts, with glyphs by their numbers unless the program prints their names."""
+    if isinstance(source, Converted) and any(option in given.own for option in CONTEXT):
         from shaping.context import shape_in_context
 
-        boxes = {glyph: tuple(box) for glyph, *box in rows_of(font, "extents")} if given.has("show-extents") else {}
-        lines = shape_in_context(tables, font, texts.each(), given, boxes)
+        boxes = {glyph: tuple(box) for glyph, *box in source.rows_of("extents")} if given.has("show-extents") else {}
+        lines = shape_in_context(source.tables, source.font, texts.each(), given, boxes)
         status = next((line.status for line in lines if line.status), 0)
         return Shaped("".join(line.glyphs for line in lines), status, lambda: lines)
-    options = [*given.program, NUMBERS] if NUMBERS not in given.program else given.program
-    return shape_texts(program, tables, font, texts, options)
+    is_numbered = (is_numbered or source.names is not None) and NUMBERS not in given.program
+    return shape_texts(source, texts, [*given.program, NUMBERS] if is_numbered else given.program)
 
 
-def verify(program: Path, lines: list[Line], given: Given, tables: Path, font: Path) -> None:
+def verify(source: Source, lines: list[Line], given: Given) -> None:
     """Tests the promises on each text that was shaped; the first that is broken is a fault."""
     from shaping.verify import Promises
 
     for line in lines:
         if not line.status:
-            for broken in Promises(program, tables, font, line.text, given).broken():
+            for broken in Promises(source, line.text, given).broken():
                 raise ToolFault(SHAPING, f"{line.text.where}: a promise is broken: {broken}")
 
 
-def show(shaped: Shaped, texts: Texts, given: Given, tables: Path, font: Path) -> int:
+def show(shaped: Shaped, source: Source, texts: Texts, given: Given) -> int:
     """Prints each text's line, or tells its fault; the status of the first fault, else 0."""
-    for what in told_of(font):
+    for what in source.left_out:
         tell(NAME, f"{given.font}: left out, and it changes glyphs or positions: {what}")
-    characters = {row[0] for row in rows_of(font, "cmap")}
-    hidden = unshown(texts.characters(), characters)
-    names = {} if given.has("no-glyph-names") and not given.is_json else dict(rows_of(font, "names"))
+    hidden = unshown(texts.characters(), source.characters)
+    names = {} if given.has("no-glyph-names") and not given.is_json else source.names
     if not (shaped.status or hidden or "show-text" in given.own):
         # Nothing is told or printed between the lines.
         print_lines(shaped.printed, names, given)
         return 0
     for line in shaped.lines:
         if line.status:
-            tell(NAME, told(line, tables, font))
+            tell(NAME, told(line, source))
             continue
-        for note in lack_notes(line.text, characters) if hidden else ():
+        for note in lack_notes(line.text, source.characters) if hidden else ():
             tell(NAME, note)
         print_lines(line.glyphs, names, given, line.text)
     return shaped.status
 
 
-def print_lines(glyphs: str, names: dict[int, str], given: Given, text: Text | None = None) -> None:
+def print_lines(glyphs: str, names: dict[int, str] | None, given: Given, text: Text | None = None) -> None:
     """Prints what standard output has of lines of glyphs, or of one and its text, unless it has a picture."""
     if STANDARD_OUTPUT not in pictures_of(given):
         before = f"({text.characters})\n" if text is not None and "show-text" in given.own else ""
         emit(before + printed(glyphs, names, given))
 
 
-def printed(glyphs: str, names: dict[int, str], given: Given) -> str:
-    """What standard output has of lines of glyphs."""
+def printed(glyphs: str, names: dict[int, str] | None, given: Given) -> str:
+    """What standard output has of lines of glyphs, which have names where none are given."""
     if given.is_json:
-        return "".join(as_json(read_line(line), names, given) + "\n" for line in glyphs.splitlines())
+        return "".join(as_json(read_line(line), names or {}, given) + "\n" for line in glyphs.split("\n")[:-1])
     if given.has("no-glyph-names"):
         return glyphs
+    if names is None:
+        return clean_lines(glyphs)
     return with_names(glyphs, names, not given.has("no-clusters"))
 
 
@@ -160,11 +166,11 @@ def pictures_of(given: Given) -> list[str]:
     return [given.own[kind] for kind in PICTURES if kind in given.own]
 
 
-def whole_lines(program: Path, shaped: Shaped, texts: Texts, given: Given, tables: Path, font: Path) -> list[Line]:
+def whole_lines(source: Source, shaped: Shaped, texts: Texts, given: Given) -> list[Line]:
     """The lines of the texts that were shaped with all that a picture needs, whatever is printed."""
-    if any(word in HIDING for word in given.program):
+    if source.names is None or any(word in HIDING for word in given.program):
         whole = replace(given, program=[word for word in given.program if word not in HIDING])
-        shaped = shape(program, tables, font, texts, whole)
+        shaped = shape(source, texts, whole, True)
     return [line for line in shaped.lines if not line.status]
 
 
@@ -178,7 +184,7 @@ def draw(lines: list[Line], given: Given, place: Place | None) -> None:
         return
     texts = [(line.text.characters, read_line(line.glyphs)) for line in lines]
     is_vertical = (given.value("direction") or "l")[0].lower() in "tb"
-    drawn = picture(given.font, font_index(given), texts, is_vertical, place, not given.has("no-limits"))
+    drawn = picture(given.font, given.font_index, texts, is_vertical, place, not given.has("no-limits"))
     if "svg" in given.own:
         write(given.own["svg"], svg(drawn).encode())
     if "png" in given.own:
@@ -192,103 +198,3 @@ def write(path: str, content: bytes) -> None:
         return
     with naming(path):
         write_file(Path(path), content)
-
-
-# ---- fonts and tables
-
-
-def is_json(font: Path) -> bool:
-    return font.suffix == JSON_FONT
-
-
-def font_index(given: Given) -> int:
-    return int(given.own.get("font-index", "0"))
-
-
-def font_file(folder: Path, given: Given, place: Place | None = None) -> Path:
-    """The font's value as a file: the file itself where it is one."""
-    if is_json(given.font):
-        check_format(given.font)
-        return given.font
-    return font_value(folder, given.font, font_index(given), not given.has("no-limits"), place)
-
-
-def check_format(font: Path) -> None:
-    """Refuses a value of another format, whose keys the program would pass over."""
-    other = format_fault({KEY: key_of(font, KEY, FONT)}, FONT)
-    if other is not None:
-        raise ToolFault(DATA, f"{font}: {other}")
-
-
-def font_value(folder: Path, path: Path, index: int, is_limited: bool = True, place: Place | None = None) -> Path:
-    """A font file's value as a file, of a variable font at a place."""
-    status = path.stat()
-    stamp = fingerprint(str(path.resolve()), status.st_size, status.st_mtime_ns, index, FONT_READ, place)
-    return cached(folder / font_name(path, index, place), stamp, lambda: convert(path, index, is_limited, place))
-
-
-def convert(path: Path, index: int, is_limited: bool, place: Place | None) -> dict[str, Any]:
-    """The value of a font; what it leaves out is told, but for what each run tells."""
-    notes = Notes()
-    value = read_font(str(path), index, FONT_READ, notes, is_limited, place)
-    for line in notes.others():
-        tell(NAME, f"{path}: {line}")
-    return value
-
-
-def rows_of(font: Path, key: str) -> list[Any]:
-    """The rows of a key; none where the file, which the program refuses, has something else there."""
-    rows = key_of(font, key, [])
-    return rows if isinstance(rows, list) and all(isinstance(row, list) and len(row) >= 2 for row in rows) else []
-
-
-def told_of(font: Path) -> list[str]:
-    """What was left out of a font though it changes glyphs or positions."""
-    origin = key_of(font, "source", {})
-    told_lines = origin.get("told", []) if isinstance(origin, dict) else []
-    return [line for line in told_lines if isinstance(line, str)] if isinstance(told_lines, list) else []
-
-
-def key_of(font: Path, key: str, usual: Any) -> Any:
-    """A key of a font's file; what is usual where it has none, or can't be read."""
-    try:
-        return json.loads(font.read_bytes()).get(key, usual) if is_json(font) else part_of(font, key, usual)
-    except (AttributeError, RecursionError, TypeError, ValueError):
-        return usual
-
-
-def tables_file(folder: Path) -> Path:
-    """The tables as a file: of Debian's unicode-data where that is there, else those that come with the tools."""
-    if not TABLES_READ:
-        SHIPPED.stat()
-        return SHIPPED
-    return cached(folder / "tables.json", fingerprint(TABLES_READ), make_read_tables)
-
-
-def which_tables(tables: Path) -> str:
-    version = part_of(tables, "unicode", {}).get("version", "?")
-    whence = (
-        "which come with the tools: Debian's unicode-data is not there" if tables == SHIPPED else f"made of {DEBIAN}"
-    )
-    return f"tables: {tables}, of Unicode {version}, {whence}"
-
-
-def make_read_tables() -> dict[str, Any]:
-    progress = Progress(NAME)
-    try:
-        return make_tables(DEBIAN, TABLES_READ, progress)
-    finally:
-        progress.end()
-
-
-def heal(folder: Path, given: Given, place: Place | None, tables: Path, font: Path) -> bool:
-    """Makes kept files anew that the program refuses, as by a fault of the disk; whether there were such."""
-    finders = ((tables, tables_fault), (font, font_fault))
-    refused = [path for path, find in finders if find(path) is not None] or [tables, font]
-    kept = [path for path in refused if path.parent == folder]
-    for path in kept:
-        path.unlink(missing_ok=True)
-    if kept:
-        tables_file(folder)
-        font_file(folder, given, place)
-    return bool(kept)

@@ -1,41 +1,75 @@
-"""The command line of hb_shape: the program, there before it is run, and a line on its faults."""
+"""The command lines of hb_shape and kuspveli: the program, there before it is run, and a line on its faults."""
 
 import os
+import re
 import signal
 import subprocess
 from pathlib import Path
+from typing import Callable
 
-from building.places import BUILD, PROGRAM, Place
+from building.places import BUILD, KUSPVELI, PROGRAM, Place, Target
 from building.progress import end_by_exit
 from building.ready import is_ready, ready_program
 from common.faults import WORDS, ToolFault
-from common.printing import tell
+from common.printing import emit, tell
 from common.version import version
-from shaping.program_words import files_of, usage, word_fault
-from shaping.reasons import reason_of, swapped
+from shaping import program_words, reasons
+from shaping.program_words import usage, word_fault
+from sources.crates import ROOT
 
-NAME = "hb_shape"
+NAME, FONT_NAME = PROGRAM.name, KUSPVELI.name
 HELP, VERSION = ("--help", "-h"), ("--version", "-V")
 ENDS = (signal.SIGTERM, signal.SIGHUP)
+# Where the program kuspveli has what it says of its words.
+TEXTS = ROOT / "crates" / "shell_font_run" / "src" / "texts.rt"
+USAGE = re.compile(r'pub const USAGE: &str = "(.*?)";', re.DOTALL)
 
 
 def main(words: list[str]) -> int:
-    """Runs the program; its status is the program's."""
+    """Runs hb_shape; its status is the program's."""
     if any(word in HELP for word in words):
         print(usage())
         return 0
     if any(word in VERSION for word in words):
-        print("\n".join(told_version()))
+        print("\n".join(told_version(PROGRAM)))
         return 0
-    fault = word_fault(words)
-    if fault is not None and not is_ready():
+    return run_command(words, PROGRAM, program_words.HB_SHAPE, reasons.hb_shape_reasons)
+
+
+def font_main(words: list[str]) -> int:
+    """Runs kuspveli; its status is the program's."""
+    asked = words[: words.index("--")] if "--" in words else words
+    if any(word in HELP for word in asked) and not is_ready(KUSPVELI):
+        # What it says of itself is worth no build.
+        emit(own_usage())
+        return 0
+    if any(word in VERSION for word in asked):
+        print("\n".join(told_version(KUSPVELI)))
+        return 0
+    return run_command(words, KUSPVELI, program_words.KUSPVELI, reasons.kuspveli_reasons)
+
+
+def run_command(
+    words: list[str],
+    target: Target,
+    command: program_words.Command,
+    reasons_of: Callable[[int, list[str]], list[str]],
+) -> int:
+    """Runs a program with its words, and tells more of a fault than its own line does."""
+    fault = word_fault(words, command)
+    if fault is not None and not is_ready(target) and not any(word in HELP for word in words):
         # Wrong words are worth no build.
         raise ToolFault(WORDS, fault)
-    status = run(ready_program(NAME), words)
-    for line in (reason_of(status, words), None if fault else swapped(files_of(words))):
-        if line is not None:
-            tell(NAME, line)
+    status = run(ready_program(target.name, target=target), words)
+    for line in reasons_of(status, words):
+        tell(target.name, line)
     return status
+
+
+def own_usage() -> str:
+    """What kuspveli says of its words, as its source has it."""
+    found = USAGE.search(TEXTS.read_text(encoding="utf-8"))
+    return found[1] if found else f"usage: {program_words.KUSPVELI.usage}\n"
 
 
 def run(program: Path, words: list[str]) -> int:
@@ -60,10 +94,10 @@ def take_signals() -> None:
     signal.pthread_sigmask(signal.SIG_UNBLOCK, ENDS)
 
 
-def told_version() -> list[str]:
+def told_version(target: Target = PROGRAM) -> list[str]:
     """The version, and which program is built, of which sources, by which kit."""
     lines = [f"Kuspveli {version()}"]
-    for place in (Place(PROGRAM, True), Place(PROGRAM, False)):
+    for place in (Place(target, True), Place(target, False)):
         stamp = place.stamp()
         if stamp is not None:
             how = f"proved by {stamp.kit}" if place.is_proved else f"unproved, compiled by {stamp.kit}"

@@ -4,12 +4,12 @@ import re
 from dataclasses import dataclass
 
 from common.faults import DATA, ToolFault
-from common.printing import clean_name
+from common.printing import clean, clean_name
 from common.writing import json_text
 from shaping.options import Given
 
 GLYPH = re.compile(
-    r"(?P<number>\d+)(?:=(?P<cluster>\d+))?(?:@(?P<dx>-?\d+),(?P<dy>-?\d+))?(?:\+(?P<ax>-?\d+)(?:,(?P<ay>-?\d+))?)?"
+    r"(?P<name>[^|\n]*?)(?:=(?P<cluster>\d+))?(?:@(?P<dx>-?\d+),(?P<dy>-?\d+))?(?:\+(?P<ax>-?\d+)(?:,(?P<ay>-?\d+))?)?"
     r"(?:#(?P<flags>[0-9a-f]+))?(?:<(?P<box>-?\d+,-?\d+,-?\d+,-?\d+)>)?"
 )
 DIGITS = "0123456789"
@@ -17,7 +17,8 @@ DIGITS = "0123456789"
 
 @dataclass(frozen=True)
 class Glyph:
-    """A glyph as the program prints it by its number; what is not printed is 0, or None where it may be left out."""
+    """A glyph as the program prints it, by its number or its name; what is not printed is 0, or None where it may be left
+    out."""
 
     number: int
     cluster: int
@@ -27,18 +28,22 @@ class Glyph:
     y_advance: int
     flags: int
     box: tuple[int, ...] | None
+    name: str | None = None
 
 
 def read_line(line: str) -> list[Glyph]:
-    """The glyphs of a line that was printed with --no-glyph-names."""
+    """The glyphs of a line. Those that have a name there have the number 0; the line is to have no name of digits alone,
+    or with a mark that divides fields."""
     found = []
     for part in line.rstrip("\n").split("|") if line.strip() else []:
         glyph = GLYPH.fullmatch(part)
         if glyph is None:
             raise ToolFault(DATA, f"the program printed what is no glyph: {part!r}")
-        numbers = [int(glyph[name] or 0) for name in ("number", "cluster", "dx", "dy", "ax", "ay")]
+        numbers = [int(glyph[name] or 0) for name in ("cluster", "dx", "dy", "ax", "ay")]
         box = tuple(map(int, glyph["box"].split(","))) if glyph["box"] else None
-        found.append(Glyph(*numbers, int(glyph["flags"] or "0", 16), box))
+        is_number = glyph["name"].isdecimal()
+        number, name = (int(glyph["name"]), None) if is_number else (0, glyph["name"])
+        found.append(Glyph(number, *numbers, int(glyph["flags"] or "0", 16), box, name))
     return found
 
 
@@ -47,6 +52,11 @@ def with_names(lines: str, names: dict[int, str], has_clusters: bool = True) -> 
     # A line feed is a field of its own here.
     fields = lines.replace("\n", "|\n|").split("|")
     return "|".join(map(Named(names, has_clusters).__getitem__, fields)).replace("|\n|", "\n")
+
+
+def clean_lines(lines: str) -> str:
+    """Lines with names as the program printed them, without characters that a terminal takes for more than a text."""
+    return lines if lines.replace("\n", "").isprintable() else "".join(clean(line) + "\n" for line in lines.split("\n")[:-1])
 
 
 class Named(dict[str, str]):
@@ -98,9 +108,14 @@ def as_json(glyphs: list[Glyph], names: dict[int, str], given: Given) -> str:
     return json_text([entry(glyph, names, given) for glyph in glyphs])
 
 
+def shown_name(glyph: Glyph, names: dict[int, str], given: Given) -> int | str:
+    if glyph.name is not None:
+        return glyph.name
+    return glyph.number if given.has("no-glyph-names") else names.get(glyph.number, f"gid{glyph.number}")
+
+
 def entry(glyph: Glyph, names: dict[int, str], given: Given) -> dict[str, int | str]:
-    is_number = given.has("no-glyph-names")
-    made: dict[str, int | str] = {"g": glyph.number if is_number else names.get(glyph.number, f"gid{glyph.number}")}
+    made: dict[str, int | str] = {"g": shown_name(glyph, names, given)}
     if not given.has("no-clusters"):
         made["cl"] = glyph.cluster
     if not given.has("no-positions"):

@@ -211,6 +211,11 @@ class Given:
         return next((value for name, _, value in words if name == f"--{option}"), None)
 
     @property
+    def font_index(self) -> int:
+        """The index of the font in its file."""
+        return int(self.own.get("font-index", "0"))
+
+    @property
     def is_json(self) -> bool:
         """Whether glyphs are printed as JSON."""
         return "json" in self.own or self.own.get("output-format") == "json"

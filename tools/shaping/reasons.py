@@ -1,16 +1,17 @@
-"""Why the program refused its files: its own lines are fixed, and name neither a file nor a place in it."""
+"""Why a program refused its words or files: its own lines are fixed; those of hb_shape name neither a file nor a place
+in it, and those of kuspveli no word."""
 
 import json
 import mmap
 import os
 import stat
 from pathlib import Path
-from typing import Any, BinaryIO, Callable
+from typing import Any, BinaryIO, Callable, Sequence
 
 from common.faults import DATA, FILES, TEXT, WORDS
 from formats.named import FONT, KEY, TABLES
 from shaping.program_words import FILES as ROLES
-from shaping.program_words import USAGE, files_of, word_fault
+from shaping.program_words import KUSPVELI, USAGE, files_of, word_fault
 
 # The text of this name is standard input; tables and fonts are files.
 STANDARD_INPUT = "-"
@@ -23,21 +24,41 @@ MOST = 256 << 20
 PIECE = 1 << 20
 
 
+def hb_shape_reasons(status: int, words: list[str]) -> list[str]:
+    """What the program's status is about, and whether its files seem to be swapped, also without a fault."""
+    found = reason_of(status, words), None if word_fault(words) else swapped(files_of(words))
+    return [line for line in found if line is not None]
+
+
+def kuspveli_reasons(status: int, words: list[str]) -> list[str]:
+    """The word that is wrong, or why the font file can't be read. Of other faults the program's own line says where."""
+    if status == WORDS:
+        return [word_fault(words, KUSPVELI) or f"these words are refused: {KUSPVELI.usage} (tools/kuspveli --help)"]
+    if status != FILES or word_fault(words, KUSPVELI):
+        return []
+    reason = reading_reason(files_of(words, KUSPVELI)[:1], KUSPVELI.files)
+    return [] if reason is None else [reason]
+
+
 def reason_of(status: int, words: list[str]) -> str | None:
     """What the program's status is about: the word, or the file and where in it; None where none is found."""
     if status == WORDS:
         return word_fault(words) or f"these words are refused: {USAGE} (tools/hb_shape --help)"
-    find = {DATA: data_reason, TEXT: text_reason, FILES: reading_reason}.get(status)
+    find = {DATA: data_reason, TEXT: text_reason, FILES: of_reading}.get(status)
     try:
         return find(files_of(words)) if find else None
     except (OSError, ValueError):
         return None
 
 
-def reading_reason(files: list[str]) -> str | None:
-    """The first file that can't be read."""
+def of_reading(files: list[str]) -> str | None:
     *_, text = files
-    for role, name in zip(ROLES, files if text != STANDARD_INPUT else files[:-1]):
+    return reading_reason(files if text != STANDARD_INPUT else files[:-1], ROLES)
+
+
+def reading_reason(files: list[str], roles: Sequence[str]) -> str | None:
+    """The first file that can't be read."""
+    for role, name in zip(roles, files):
         try:
             # A pipe is not waited for.
             with open(os.open(name, os.O_RDONLY | os.O_NONBLOCK), "rb") as file:

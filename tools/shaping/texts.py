@@ -4,7 +4,7 @@ import os
 import sys
 import unicodedata
 from dataclasses import dataclass
-from typing import Iterator
+from typing import Container, Iterator
 
 from common.faults import FILES, TEXT, ToolFault
 from common.printing import INPUT, naming
@@ -108,19 +108,19 @@ def script_of(text: str) -> str:
     return next((script for script in found if script not in ("Zyyy", "Zinh", "Zzzz")), "Zyyy")
 
 
-def unshown(characters: set[str], has: set[int]) -> set[str]:
+def unshown(characters: set[str], has: Container[int]) -> set[str]:
     """Those of some characters for which the font has nothing to show by themselves."""
     return {character for character in characters if not is_shown(ord(character), has)}
 
 
-def lacking(text: str, has: set[int]) -> Iterator[tuple[int, str]]:
+def lacking(text: str, has: Container[int]) -> Iterator[tuple[int, str]]:
     """Each character, with its index, for which the font has nothing to show."""
     for at, character in enumerate(text):
         if not (is_shown(ord(character), has) or is_composed(text, at, has)):
             yield at, character
 
 
-def is_shown(character: int, has: set[int]) -> bool:
+def is_shown(character: int, has: Container[int]) -> bool:
     """Whether the font has the character, its pieces, or what stands for it; or nothing is to be shown."""
     if character in has or any(first <= character <= last for first, last in IGNORABLE):
         return True
@@ -132,7 +132,7 @@ def is_shown(character: int, has: set[int]) -> bool:
     return len(pieces) > 1 and all(ord(piece) in has for piece in pieces)
 
 
-def is_composed(text: str, at: int, has: set[int]) -> bool:
+def is_composed(text: str, at: int, has: Container[int]) -> bool:
     """Whether a mark becomes one character that the font has, with what stands before it."""
     start = at
     while start > 0 and unicodedata.combining(text[start]):
@@ -141,7 +141,7 @@ def is_composed(text: str, at: int, has: set[int]) -> bool:
     return start < at and len(whole) < at + 1 - start and all(ord(one) in has for one in whole)
 
 
-def lack_notes(text: Text, has: set[int]) -> Iterator[str]:
+def lack_notes(text: Text, has: Container[int]) -> Iterator[str]:
     """What the font lacks of a text, with the byte and character where each first stands."""
     met: dict[str, int] = {}
     for at, character in lacking(text.characters, has):

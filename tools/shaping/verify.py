@@ -1,12 +1,12 @@
 """Promises of this project, tested on a text by shaping it with other options."""
 
-from pathlib import Path
 from typing import Iterator
 
 from common.faults import ToolFault
 from shaping.glyphs import Glyph, read_line
 from shaping.options import Given
 from shaping.program import run_one
+from shaping.sources import Source
 from shaping.texts import Text, script_of
 
 LEVELS = ("0", "1", "2", "3")
@@ -25,8 +25,8 @@ INDIC = {"Beng", "Deva", "Gujr", "Guru", "Knda", "Mlym", "Orya", "Taml", "Telu"}
 class Promises:
     """The runs of one text, and what they show."""
 
-    def __init__(self, program: Path, tables: Path, font: Path, text: Text, given: Given) -> None:
-        self.files = program, tables, font, text
+    def __init__(self, source: Source, text: Text, given: Given) -> None:
+        self.source = source
         self.text = text
         self.options = [word for word in given.program if word.split("=")[0] not in SET_HERE]
         self.level = given.value("cluster-level") or "0"
@@ -73,7 +73,7 @@ class Promises:
 
     def run(self, level: str, more: list[str]) -> list[str]:
         options = [*self.options, *PRINTED, f"--cluster-level={level}", *more]
-        line = run_one(*self.files, options)
+        line = run_one(self.source, self.text, options)
         if line.status:
             raise ToolFault(line.status, f"{self.text.where}: {' '.join(options)}: {line.fault}")
         return line.glyphs.split("\n")[:-1]

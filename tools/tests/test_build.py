@@ -91,7 +91,7 @@ class Built(unittest.TestCase):
     def build(self, *words: str) -> tuple[int, str]:
         """The status, and what was told, with 0:00 for each time. No tree is left."""
         with contextlib.redirect_stderr(io.StringIO()) as told, contextlib.redirect_stdout(io.StringIO()) as shown:
-            status = cli.main([*words], self.root)
+            status = cli.main(["hb_shape", *words], self.root)
         self.assertEqual(self.trees(), [])
         return status, re.sub(r"\d+:\d\d", "0:00", told.getvalue() + shown.getvalue())
 
@@ -272,7 +272,7 @@ class Built(unittest.TestCase):
 
         with mock.patch.object(cli, "lay_tree", lay):
             for _ in range(2):
-                self.assertRaises(ToolFault, cli.main, [], self.root)
+                self.assertRaises(ToolFault, cli.main, ["hb_shape"], self.root)
         self.assertEqual([mode for _, mode in found], [0o700, 0o700])
         self.assertNotEqual(found[0][0], found[1][0])
         self.assertEqual(self.trees(), [])
@@ -283,7 +283,7 @@ class Built(unittest.TestCase):
         copy_tools(self.root)
         for sent, status in ((signal.SIGTERM, 143), (signal.SIGHUP, 129), (signal.SIGINT, 130)):
             (self.notes / "list").unlink(missing_ok=True)
-            command, streams = [self.root / "tools" / "build"], {"stderr": subprocess.PIPE, "text": True}
+            command, streams = [self.root / "tools" / "build", "hb_shape"], {"stderr": subprocess.PIPE, "text": True}
             with subprocess.Popen(command, preexec_fn=interruptible, **streams) as run:
                 while not (self.notes / "list").exists():
                     self.assertIsNone(run.poll())
@@ -365,14 +365,14 @@ class Stopped(unittest.TestCase):
             # No earlier run of this test has kept it.
             write_files(root, {"crates/low/specs/Lib.antt": f"-- {os.urandom(8).hex()}\n"})
             copy_tools(root)
-            with subprocess.Popen([root / "tools" / "build"], stderr=subprocess.PIPE, text=True) as run:
+            with subprocess.Popen([root / "tools" / "build", "hb_shape"], stderr=subprocess.PIPE, text=True) as run:
                 for line in run.stderr or ():
                     if "[1/2]" in line:
                         run.send_signal(signal.SIGINT)
                         break
                 self.assertIn("build: stopped after ", "".join(run.stderr or ()))
                 self.assertEqual(run.wait(), 130)
-            ran = subprocess.run([root / "tools" / "build"], capture_output=True, text=True, check=True)
+            ran = subprocess.run([root / "tools" / "build", "hb_shape"], capture_output=True, text=True, check=True)
             self.assertRegex(ran.stderr, r"\[1/2\] \d+:\d\d low is kept\n")
             self.assertRegex(ran.stderr, r"\[2/2\] \d+:\d\d hb_shape proved")
             self.assertEqual(ran.stdout, "built out/hb_shape\n")

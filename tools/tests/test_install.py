@@ -12,7 +12,7 @@ from unittest import mock
 
 from support import DEJAVU, NASKH, write_files
 
-from building.places import LIBRARY, PROGRAM, Place, standing
+from building.places import KUSPVELI, LIBRARY, PROGRAM, Place, standing
 from common.faults import ToolFault
 from common.version import soname, version
 from installing import cli, layout, placing
@@ -175,7 +175,7 @@ class Words(unittest.TestCase):
 
 @unittest.skipUnless(all(map(shutil.which, NEEDED)), "needs gcc and pkg-config")
 @unittest.skipUnless(
-    all(standing(target).is_current() for target in (PROGRAM, LIBRARY)), "needs tools/build and tools/build_library"
+    all(standing(target).is_current() for target in (PROGRAM, LIBRARY, KUSPVELI)), "needs tools/build and tools/build_library"
 )
 class Installed(unittest.TestCase):
     """What is built here, proved or not, below a prefix, used from another folder."""
@@ -184,7 +184,7 @@ class Installed(unittest.TestCase):
     def setUpClass(cls) -> None:
         cls.folder = Path(cls.enterClassContext(tempfile.TemporaryDirectory()))
         cls.prefix = cls.folder / "prefix"
-        places = [standing(target) for target in (PROGRAM, LIBRARY)]
+        places = [standing(target) for target in (PROGRAM, LIBRARY, KUSPVELI)]
         placing.place_all(cls.prefix, layout.layout(ROOT, cls.prefix, *places))
         cls.found = {"PKG_CONFIG_PATH": str(cls.prefix / "lib" / "pkgconfig"), "XDG_CACHE_HOME": str(cls.folder)}
 

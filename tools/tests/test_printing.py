@@ -20,7 +20,7 @@ from support import TOOLS, interruptible, write_files, write_stand_in
 
 from common.printing import clean, clean_name
 from hostile_fonts import plain, saved
-from shaping import cli
+from shaping import cli, converting
 
 WORDS, DATA, TEXT, FILES, INTERRUPTED = 2, 3, 4, 6, 130
 # A window's title, a colour, a second glyph and a second line, C1, DEL, and the marks of a line, as a font's bytes can
@@ -37,9 +37,10 @@ import sys
 from pathlib import Path
 sys.path.insert(0, sys.argv.pop(1))
 from common.faults import run_tool
-from shaping import cli
+from shaping import cli, converting
 program = Path(sys.argv.pop(1))
-cli.ready_program, cli.TABLES_READ = lambda name: program, ["thai"]
+cli.ready_program, converting.TABLES_READ = lambda name: program, ["thai"]
+cli.is_read_by_program = lambda given: False
 run_tool("shape", cli.main)
 """
 
@@ -236,7 +237,8 @@ class Kept(Printed):
         write_stand_in(Path(self.program), REFUSING)
         patches = [
             mock.patch.object(cli, "ready_program", lambda name: Path(self.program)),
-            mock.patch.object(cli, "TABLES_READ", ["thai"]),
+            mock.patch.object(cli, "is_read_by_program", lambda given: False),
+            mock.patch.object(converting, "TABLES_READ", ["thai"]),
             mock.patch.dict(os.environ, self.environment),
         ]
         for patch in patches:

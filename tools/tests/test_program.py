@@ -85,8 +85,8 @@ class Commands(unittest.TestCase):
         os.chdir(self.folder)
         self.addCleanup(os.chdir, here)
         for patch in (
-            mock.patch.object(command, "ready_program", lambda name: self.program),
-            mock.patch.object(command, "is_ready", lambda: True),
+            mock.patch.object(command, "ready_program", lambda name, target: self.program),
+            mock.patch.object(command, "is_ready", lambda target: True),
         ):
             patch.start()
             self.addCleanup(patch.stop)
@@ -180,7 +180,8 @@ class Commands(unittest.TestCase):
         for files in (("some_tables", "a_font"), ("some_tables", "plain"), ("plain", "a_font"), ("plain", "plain")):
             self.assertEqual(self.told(0, *files, "text"), "", files)
         # Where the program refuses a file, the name of its format comes before its rows.
-        self.assertIn("FONT: some_tables: format: 'kuspveli-tables', and 'kuspveli-font' is wanted", self.told(3, "plain", "some_tables", "text"))
+        line = "FONT: some_tables: format: 'kuspveli-tables', and 'kuspveli-font' is wanted"
+        self.assertIn(line, self.told(3, "plain", "some_tables", "text"))
 
     def test_own_words(self) -> None:
         """Help and version are answered without a program."""
@@ -196,7 +197,7 @@ class Commands(unittest.TestCase):
 
     def test_wrong_words(self) -> None:
         """Wrong words begin no build."""
-        with mock.patch.object(command, "is_ready", lambda: False), mock.patch.object(command, "ready_program", None):
+        with mock.patch.object(command, "is_ready", lambda target: False), mock.patch.object(command, "ready_program", None):
             self.assertRaisesRegex(ToolFault, "FONT is missing", command.main, ["tables"])
 
     def test_ended(self) -> None:

@@ -26,8 +26,8 @@ from fontTools.ttLib import TTFont
 from fontTools.ttLib.tables.DefaultTable import DefaultTable
 from formats.rules import font_faults
 from formats.where import font_fault, tables_fault
-from shaping import cache, cli
-from shaping.cli import SHIPPED
+from shaping import cache, cli, converting
+from shaping.converting import SHIPPED
 from shaping.context import feature, load
 from shaping.glyphs import Glyph, as_json, read_line, text_of
 from shaping.locales import language_of
@@ -94,7 +94,11 @@ class Commands(unittest.TestCase):
         self.cache = self.folder / "cache" / "kuspveli"
         places = {"SHAPE_TEST": folder.name, "XDG_CACHE_HOME": str(self.folder / "cache")}
         ready = mock.patch.object(cli, "ready_program", lambda name: stand_in)
-        patches = [ready, mock.patch.object(cli, "TABLES_READ", ["thai"])]
+        patches = [
+            ready,
+            mock.patch.object(cli, "is_read_by_program", lambda given: False),
+            mock.patch.object(converting, "TABLES_READ", ["thai"]),
+        ]
         for patch in (*patches, mock.patch.dict(os.environ, places)):
             patch.start()
             self.addCleanup(patch.stop)
@@ -140,7 +144,7 @@ class Commands(unittest.TestCase):
         self.shape("a")
         value = json.loads(self.kept().read_text())
         self.assertEqual(list(font_faults(value)), [])
-        keys = [key for key in cli.FONT_READ.keys if key in value]
+        keys = [key for key in converting.FONT_READ.keys if key in value]
         self.assertEqual(list(value), ["cache", "format", "source", *keys, "end"])
         self.assertLessEqual({"cmap", "h", "gdef", "gsub", "gpos"}, set(value))
         self.assertEqual(os.listdir(self.font.parent), ["font.ttf"])

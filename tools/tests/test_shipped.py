@@ -12,7 +12,7 @@ from unittest import mock
 from support import TOOLS, run, write_stand_in
 
 from formats.rules import tables_faults
-from shaping import cli
+from shaping import cli, converting
 from shaping.cache import part_of
 from unicodejson.cli import DEBIAN, MAKERS
 
@@ -60,7 +60,8 @@ class Without(unittest.TestCase):
         (self.folder / "font.json").write_text(FONT)
         for patch in (
             mock.patch.object(cli, "ready_program", lambda name: Path(stand_in)),
-            mock.patch.object(cli, "TABLES_READ", []),
+            mock.patch.object(cli, "is_read_by_program", lambda given: False),
+            mock.patch.object(converting, "TABLES_READ", []),
             mock.patch.dict(os.environ, {"XDG_CACHE_HOME": folder.name}),
         ):
             patch.start()
@@ -82,7 +83,7 @@ class Without(unittest.TestCase):
 
     def test_missing(self) -> None:
         """A file that is not there either is a fault with its name."""
-        with mock.patch.object(cli, "SHIPPED", self.folder / "none.json"):
+        with mock.patch.object(converting, "SHIPPED", self.folder / "none.json"):
             with self.assertRaises(FileNotFoundError) as caught:
                 self.shape()
         self.assertIn("none.json", str(caught.exception))

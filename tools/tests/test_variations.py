@@ -21,7 +21,7 @@ from fontTools.ttLib.tables.TupleVariation import TupleVariation
 from fontTools.varLib.builder import buildVarData, buildVarRegionList, buildVarStore
 from fontTools.varLib.featureVars import addFeatureVariations
 from fontjson.variations import read_variations
-from shaping import cli
+from shaping import cli, converting
 
 GLYPHS = [".notdef", "a", "b", "heavy", "usual"]
 # The pair's distance is -10 at 100, -50 at 400 and -110 at 900.
@@ -170,11 +170,11 @@ class Instances(unittest.TestCase):
     def test_kept(self) -> None:
         """An instance is kept under its coordinates, however it is named."""
         place = {"wght": 800.0}
-        first = cli.font_value(self.folder, Path(self.path), 0, True, place)
+        first = converting.font_value(self.folder, Path(self.path), 0, True, place)
         self.assertTrue(first.name.endswith("-varied.ttf.0.wght=800.json"))
         made = first.stat().st_ino
-        self.assertEqual(cli.font_value(self.folder, Path(self.path), 0, True, place).stat().st_ino, made)
-        self.assertNotEqual(cli.font_value(self.folder, Path(self.path), 0), first)
+        self.assertEqual(converting.font_value(self.folder, Path(self.path), 0, True, place).stat().st_ino, made)
+        self.assertNotEqual(converting.font_value(self.folder, Path(self.path), 0), first)
 
     @unittest.skipUnless(standing(PROGRAM).is_current(), "needs the program (tools/build)")
     @unittest.skipUnless(shutil.which("hb-shape"), "needs hb-shape (libharfbuzz-bin)")

@@ -3,6 +3,10 @@ use Rattle.std.specs.Prelude.{ℕ, List, ◌++◌, codes}
 use Rattle.std.specs.Fmt.{decimal}
 use Rattle.shell_json.specs.declared.fault.JsonFault.{JsonFault}
 use Rattle.shell_json.specs.Fault as json_values
+use Rattle.font_bytes.specs.declared.fault.TableFault.{TableFault}
+use Rattle.font_bytes.specs.declared.fault.TableFault.TheVariants as table
+use Rattle.font_bytes.specs.declared.font_fault.FontFault.{FontFault}
+use Rattle.font_bytes.specs.Fault as font
 use Rattle.shell_readers.specs.declared.fault.RunFault.{RunFault}
 use Rattle.buffer_glyphs.specs.declared.cause.ShapeCause.{ShapeCause}
 use Rattle.buffer_glyphs.specs.declared.cause.ShapeCause.TheVariants as cause
@@ -15,6 +19,20 @@ use Rattle.shell_readers.specs.declared.fault.LineFault.TheVariants as line
 abbrev pub run_fault_of : JsonFault → RunFault
 run_fault_of json.OutOfMemory = run.OutOfMemory
 run_fault_of fault = run.Json fault
+
+-- the run's fault of a font file for a cause
+abbrev pub fault_of_table : FontFault → TableFault → RunFault
+fault_of_table fault table.OutOfMemory = run.OutOfMemory
+fault_of_table fault cause = run.Font fault
+
+-- the run's fault for a fault of a font file
+abbrev pub fault_of_font : FontFault → RunFault
+fault_of_font fault = fault_of_table fault fault.cause
+
+-- the exit status of a font file's cause
+abbrev pub status_of_table : TableFault → ℕ
+status_of_table table.OutOfMemory = 5
+status_of_table cause = 3
 
 -- the run's fault for a cause for which a text was not shaped
 abbrev pub fault_of_cause : ShapeCause → RunFault
@@ -32,6 +50,7 @@ abbrev pub status_of : RunFault → ℕ
 status_of run.Words = 2
 status_of (run.Json json.OutOfMemory) = 5
 status_of (run.Json _) = 3
+status_of (run.Font fault) = status_of_table fault.cause
 status_of run.Unlawful = 3
 status_of run.NotUtf8 = 4
 status_of (run.Shape _) = 5
@@ -59,6 +78,7 @@ name_of run.Words = codes "words"
 name_of run.Read = codes "Read"
 name_of run.ReadLimit = codes "ReadLimit"
 name_of (run.Json fault) = json_values.name_of fault
+name_of (run.Font fault) = font.name_of fault.cause
 name_of run.Unlawful = codes "Unlawful"
 name_of run.NotUtf8 = codes "NotUtf8"
 name_of (run.Shape c) = name_of_cause c
@@ -66,7 +86,9 @@ name_of (run.Line _ fault) = name_of_line fault
 name_of run.Write = codes "Write"
 name_of run.OutOfMemory = codes "OutOfMemory"
 
--- the text of a fault: its name, and after it the number of the line, where it is a line's
+-- the text of a fault: its name, and after it the number of the line, where it is a line's, or the table and the offset,
+-- where it is a font file's
 abbrev pub message_of : RunFault → List ℕ
 message_of (run.Line number fault) = name_of_line fault ++ (codes " line " ++ decimal number)
+message_of (run.Font fault) = font.message_of fault
 message_of fault = name_of fault

@@ -7,6 +7,8 @@ ghost use Rattle.std.specs.Prelude.{◌≡◌};
 ghost use Rattle.shell_readers.specs.Fault.{name_of, name_of_cause, name_of_line, status_of, status_of_line};
 
 use buffer_glyphs::cause::ShapeCause;
+use font_bytes::fault::TableFault;
+use font_bytes::font_fault::FontFault;
 use shell_json::fault::JsonFault;
 use std::alloc::{AllocError, AllocFailed};
 use std::error::Error;
@@ -23,6 +25,8 @@ pub enum RunFault {
     ReadLimit,
     /// Tables or a font are not of their format.
     Json(JsonFault),
+    /// A font file is not of its format.
+    Font(FontFault),
     /// The tables are of their format, but equivalent texts would be shaped differently with them.
     Unlawful,
     /// The text is not UTF-8.
@@ -86,7 +90,13 @@ impl RunFault {
         match self {
             RunFault::Words => 2,
             RunFault::Json(JsonFault::OutOfMemory) => 5,
-            RunFault::Json(_) | RunFault::Unlawful => 3,
+            RunFault::Font(
+                FontFault {
+                    cause: TableFault::OutOfMemory,
+                    ..
+                },
+            ) => 5,
+            RunFault::Json(_) | RunFault::Font(_) | RunFault::Unlawful => 3,
             RunFault::NotUtf8 => 4,
             RunFault::Shape(_) | RunFault::OutOfMemory => 5,
             RunFault::Line(_, fault) => fault.status(),
@@ -96,7 +106,8 @@ impl RunFault {
 }
 
 impl RunFault {
-    /// The name under which it is printed, with its own number where it has one. A line's number isn't part of it.
+    /// The name under which it is printed, with its own number where it has one. A line's number isn't part of it, nor a
+    /// font's table and offset.
     pub fn name(self) -> &'static str
         ensures { result.now ≡ name_of self }
     {
@@ -105,6 +116,7 @@ impl RunFault {
             RunFault::Read => "Read",
             RunFault::ReadLimit => "ReadLimit",
             RunFault::Json(fault) => fault.name(),
+            RunFault::Font(fault) => fault.name(),
             RunFault::Unlawful => "Unlawful",
             RunFault::NotUtf8 => "NotUtf8",
             RunFault::Shape(cause) => name_of_cause(cause),
@@ -127,6 +139,7 @@ impl fmt::Display for RunFault {
                 let name = fault.name();
                 write!(f, "{name} line {number}")
             }
+            RunFault::Font(fault) => write!(f, "{fault}"),
             fault => f.write_str(fault.name()),
         }
     }
@@ -144,6 +157,20 @@ impl From<JsonFault> for RunFault {
         match fault {
             JsonFault::OutOfMemory => RunFault::OutOfMemory,
             fault => RunFault::Json(fault),
+        }
+    }
+}
+
+impl From<FontFault> for RunFault {
+    ghost use Rattle.std.specs.Prelude.{◌≡◌};
+    ghost use Rattle.shell_readers.specs.Fault.{fault_of_font};
+
+    ghost from_gives = { λ f e. e ≡ fault_of_font f };
+
+    fn from(fault: FontFault) -> RunFault {
+        match fault.cause {
+            TableFault::OutOfMemory => RunFault::OutOfMemory,
+            _ => RunFault::Font(fault),
         }
     }
 }

@@ -54,7 +54,7 @@ either_known : (K A B : Type 0) → (A → B) → K ⊎ A → K ⊎ B
 either_known K A B f (inl k) = inl k
 either_known K A B f (inr a) = inr (f a)
 
-reaches_known : (known remaining : Option (List ℕ)) → HasBytes known remaining → ReachesReadLimit remaining → ReachesReadLimit known
+pub reaches_known : (known remaining : Option (List ℕ)) → HasBytes known remaining → ReachesReadLimit remaining → ReachesReadLimit known
 reaches_known None remaining has long = tt
 reaches_known (Some bytes) remaining has long = subst ReachesReadLimit has long
 

@@ -14,7 +14,8 @@ mod shape;
 mod slices;
 mod write;
 
-pub use running::run;
+pub use read::read_all;
+pub use running::{run, write_answer};
 pub use script_categories::SyllableTable;
 pub use shell_face_json::read_face;
 pub use shell_json::fault::JsonFault;
@@ -22,3 +23,4 @@ pub use shell_readers::fault::RunFault;
 pub use shell_readers::options::Options;
 pub use shell_tables_json::{read_languages, read_syllables, read_tables};
 pub use shell_words::{CommandLine, parse_options};
+pub use write::write_lines;

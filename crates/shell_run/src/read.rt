@@ -15,7 +15,7 @@ const READ_LIMIT: u32 = 1 << 26;
 /// # Errors
 ///
 /// `Read` where a read fails, `ReadLimit` where the end isn't reached in 2^26 reads, or lack of memory.
-pub(crate) fn read_all<R: Read>(alloc: Global, reader: &mut R) -> Result<Vec<u8>, RunFault>
+pub fn read_all<R: Read>(alloc: Global, reader: &mut R) -> Result<Vec<u8>, RunFault>
     ensures bytes { IfOk result (λ v. IfSome (R.remaining reader.old) (λ bs. v.items ≡ bs)) }
     ensures ended { OnOk result (IfSome (R.remaining reader.old) (λ _. IsAtEnd (R.remaining reader.new))) }
     ensures limit { result ≡ Err RunFault.ReadLimit

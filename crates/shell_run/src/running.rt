@@ -42,7 +42,7 @@ fn print(
 
 /// Writes what a text gives, after tables and a font were read: at once, or in parts where refused lines are named.
 #[tactic(auto, using(crate::proofs::Runs::lines_named))]
-fn write_answer<W: Write>(
+pub fn write_answer<W: Write>(
     alloc: Global,
     options: &Options,
     input: &RunInput,

@@ -9,7 +9,7 @@ use std::io::Write;
 
 /// Writes lines from their first byte on, until a write fails or writes nothing.
 #[tactic(auto, using(crate::proofs::Writing::front_none, crate::proofs::Writing::front_stays, crate::proofs::Writing::front_whole))]
-pub(crate) fn write_lines<W: Write>(out: &mut W, lines: &[u8]) -> Result<(), RunFault>
+pub fn write_lines<W: Write>(out: &mut W, lines: &[u8]) -> Result<(), RunFault>
     ensures written { OnOk result (Appends (W.contents out.old) (W.contents out.new) lines.now) }
     ensures front { OnErr result (AppendsFront (W.contents out.old) (W.contents out.new) lines.now) }
     ensures fault { IfErr result (λ e. e ≡ RunFault.Write) }

@@ -1,9 +1,10 @@
--- The command line of the program: hb_shape [options] TABLES FONT TEXT.
-use Rattle.std.specs.Prelude.{ℕ, Bool, true, false, not, List, [], ◌∷◌, codes, if◌then◌else◌, Option, Some, None, Result, Ok, Err, string_bytes, unwrap_or, ◌++◌, ◌==◌, ◌+◌}
+-- The command lines of the programs: hb_shape [options] TABLES FONT TEXT, and kuspveli [options] FONT [TEXT].
+use Rattle.std.specs.Prelude.{ℕ, ⊤, is_some, Bool, true, false, not, List, [], ◌∷◌, codes, if◌then◌else◌, Option, Some, None, Result, Ok, Err, string_bytes, unwrap_or, ◌++◌, ◌==◌, ◌+◌, ◌*◌, ◌-◌, ◌&&◌, nat_le}
 use Rattle.std.specs.List.{slice_split, flat_map}
 use Rattle.buffer_tags.specs.declared.feature.Feature.{Feature}
 use Rattle.buffer_tags.specs.FeatureText.{feature_of_text}
 use Rattle.std.specs.Str.{bytes_eq, str_to_ascii_lowercase}
+use Rattle.std.specs.Char.{is_ascii_digit}
 use Rattle.std.specs.Option.{option_map, option_map_or, ok_or}
 use Rattle.std.specs.Result.{result_map_both}
 use Rattle.clap.specs.Words.{App, Kinds, Row, Rule, all_of, fault_of, first_of, matched_of, matches_of, new_app, new_rule, raw_values, with_rule}
@@ -17,7 +18,11 @@ use Rattle.buffer_glyphs.specs.declared.level.BufferClusterLevel.TheVariants.{Mo
 use Rattle.shell_readers.specs.declared.fault.RunFault.{RunFault}
 use Rattle.shell_readers.specs.declared.fault.RunFault.TheVariants.{Words, OutOfMemory}
 use Rattle.shell_words.specs.declared.command.Kind.{Kind}
-use Rattle.shell_words.specs.declared.command.Kind.TheVariants.{Value, Values, Switch, File}
+use Rattle.shell_words.specs.declared.command.Kind.TheVariants.{Value, Values, Switch, File, Optional}
+use Rattle.shell_readers.specs.declared.options.Options.{Options}
+use Rattle.shell_words.specs.declared.font_options.FontLine.{FontLine}
+use Rattle.shell_words.specs.declared.font_options.FontCommand.{FontCommand}
+use Rattle.shell_words.specs.declared.font_options.FontCommand.TheVariants as command
 use Rattle.shell_words.specs.declared.options.CommandLine.{CommandLine}
 use Rattle.shell_words.specs.declared.options.Printing.{Printing}
 use Rattle.buffer_common.specs.declared.constants.BufferFlags.{BufferFlags}
@@ -47,12 +52,21 @@ list_rule id = record (new_rule id) { long = Some id; action = Some Append }
 abbrev pub switch_rule : List ℕ → Rule
 switch_rule id = record (new_rule id) { long = Some id; action = Some SetTrue }
 
+-- a switch with a short name too
+abbrev pub short_rule : ℕ → List ℕ → Rule
+short_rule short id = record (new_rule id) { long = Some id; short = Some short; action = Some SetTrue }
+
+-- the name of a file, or a text, that may be missing
+abbrev pub optional_rule : List ℕ → Rule
+optional_rule id = record (new_rule id) { action = Some Set }
+
 -- the rule of an argument of a kind
 abbrev pub rule_by : Kind → List ℕ → Rule
 rule_by Value id = option_rule id
 rule_by Values id = list_rule id
 rule_by Switch id = switch_rule id
 rule_by File id = file_rule id
+rule_by Optional id = optional_rule id
 
 -- a command with an argument for each name
 abbrev pub with_all : (List ℕ → Rule) → List (List ℕ) → App → App
@@ -74,21 +88,32 @@ switch_names = codes "bot" ∷ codes "eot" ∷ codes "preserve-default-ignorable
 abbrev pub file_names : List (List ℕ)
 file_names = codes "tables" ∷ codes "font" ∷ codes "text" ∷ []
 
--- the command of the program; `--features` is the only option that may occur several times
+-- a command with the options of a text; `--features` is the only option that may occur several times
+abbrev pub with_options : App → App
+with_options app = with_all switch_rule switch_names (with_all list_rule (codes "features" ∷ []) (with_all option_rule value_names app))
+
+-- the command of the program `hb_shape`: the options, and three files
 abbrev pub hb_shape : App
-hb_shape =
-    with_all file_rule file_names
-    (with_all switch_rule switch_names
-    (with_all list_rule (codes "features" ∷ [])
-    (with_all option_rule value_names (new_app (codes "hb_shape")))))
+hb_shape = with_all file_rule file_names (with_options (new_app (codes "hb_shape")))
+
+-- a command without clap's own switch for help
+abbrev pub plain_app : List ℕ → App
+plain_app name = record { top = record (new_app name).top { disable_help_flag = true }; subs = [] }
+
+-- the command of the program `kuspveli`: the options, the index of a font, whether the font is printed, help, version, a
+-- font file, and a text that may be missing; the font file may be missing beside help and version
+abbrev pub kuspveli : App
+kuspveli =
+    with_all optional_rule (codes "font" ∷ codes "text" ∷ [])
+    (with_rule (with_rule
+    (with_all switch_rule (codes "json" ∷ []) (with_all option_rule (codes "face" ∷ []) (with_options (plain_app (codes "kuspveli")))))
+    (short_rule 104 (codes "help")))
+    (short_rule 86 (codes "version")))
 
 -- ---- the options
 
--- the options and file names, without the memory that their strings occupy
-pub record Settings : Type 0 where
-  pub tables : List ℕ
-  pub font : List ℕ
-  pub text : List ℕ
+-- the options, without the memory that their strings occupy
+pub record OptionValues : Type 0 where
   pub direction : Direction
   pub script : Option Script
   -- the language: a tag of BCP 47 in lower case
@@ -101,23 +126,70 @@ pub record Settings : Type 0 where
   pub lines : Bool
   pub keep_going : Bool
 
--- the options and file names of a command line
+-- the options and file names of `hb_shape`, without the memory that their strings occupy
+pub record Settings : Type 0 where
+  pub tables : List ℕ
+  pub font : List ℕ
+  pub text : List ℕ
+  pub options : OptionValues
+
+-- the options, the font file, the index of its font and the text of `kuspveli`; no text is standard input's
+pub record FontSettings : Type 0 where
+  pub font : List ℕ
+  pub face : ℕ
+  pub text : Option (List ℕ)
+  pub options : OptionValues
+
+-- the values of options
+abbrev pub values_of : Options → OptionValues
+values_of o = record {
+  direction = o.direction;
+  script = o.script;
+  language = option_map language_text o.language;
+  features = o.features.items;
+  cluster_level = o.cluster_level;
+  buffer_flags = o.buffer_flags;
+  flags = o.flags;
+  slices = o.slices;
+  lines = o.lines;
+  keep_going = o.keep_going;
+}
+
+-- the options and file names of a command line of `hb_shape`
 abbrev pub settings_in : CommandLine → Settings
 settings_in c = record {
   tables = string_bytes c.tables;
   font = string_bytes c.font;
   text = string_bytes c.text;
-  direction = c.options.direction;
-  script = c.options.script;
-  language = option_map language_text c.options.language;
-  features = c.options.features.items;
-  cluster_level = c.options.cluster_level;
-  buffer_flags = c.options.buffer_flags;
-  flags = c.options.flags;
-  slices = c.options.slices;
-  lines = c.options.lines;
-  keep_going = c.options.keep_going;
+  options = values_of c.options;
 }
+
+-- what the command-line words of `kuspveli` request
+pub data FontRequest : Type 0 where
+  -- to shape a text in a font file
+  Shaping : FontSettings → FontRequest
+  -- to print the font with an index of a font file
+  PrintingFont : (font : List ℕ) (face : ℕ) → FontRequest
+  -- to say what the words are
+  Usage : FontRequest
+  -- to say which version it is
+  Version : FontRequest
+
+-- the options and names of a command line of `kuspveli`
+abbrev pub font_settings_in : FontLine → FontSettings
+font_settings_in c = record {
+  font = string_bytes c.font;
+  face = c.face;
+  text = option_map string_bytes c.text;
+  options = values_of c.options;
+}
+
+-- the request of a command line of `kuspveli`
+abbrev pub request_in : FontCommand → FontRequest
+request_in (command.Shaping line) = Shaping (font_settings_in line)
+request_in (command.Printing font face) = PrintingFont (string_bytes font) face
+request_in command.Usage = Usage
+request_in command.Version = Version
 
 -- the first value of an id among the parsed words, if there is one
 abbrev pub Lookup : Type 0
@@ -253,11 +325,8 @@ buffer_flags_in value = record {
 }
 
 -- the options of the first value of each id and all values of `features`
-abbrev pub settings_of : Lookup → List (List ℕ) → Result Settings RunFault
-settings_of value features =
-    and_then (file_in (codes "tables") value) (λ tables.
-    and_then (file_in (codes "font") value) (λ font.
-    and_then (file_in (codes "text") value) (λ text.
+abbrev pub option_values : Lookup → List (List ℕ) → Result OptionValues RunFault
+option_values value features =
     and_then (direction_in value) (λ direction.
     and_then (script_in value) (λ script.
     and_then (language_in value) (λ language.
@@ -265,9 +334,6 @@ settings_of value features =
     and_then (level_in value) (λ level.
     and_then (printing_in value) (λ printing.
     Ok (record {
-      tables = tables;
-      font = font;
-      text = text;
       direction = direction;
       script = script;
       language = language;
@@ -278,7 +344,64 @@ settings_of value features =
       slices = printing.slices;
       lines = printing.lines;
       keep_going = printing.keep_going;
-    }))))))))))
+    })))))))
+
+-- the file names and the options of `hb_shape`
+abbrev pub settings_of : Lookup → List (List ℕ) → Result Settings RunFault
+settings_of value features =
+    and_then (file_in (codes "tables") value) (λ tables.
+    and_then (file_in (codes "font") value) (λ font.
+    and_then (file_in (codes "text") value) (λ text.
+    and_then (option_values value features) (λ options.
+    Ok (record { tables = tables; font = font; text = text; options = options })))))
+
+-- the number that decimal digits write after the number of those before them; one above 65,539 is refused
+abbrev pub digits_after : ℕ → List ℕ → Result ℕ RunFault
+digits_after number [] = Ok number
+digits_after number (digit ∷ digits) =
+    if is_ascii_digit digit && nat_le number 6553 then digits_after (10 * number + (digit - 48)) digits else Err Words
+
+-- the index of a font by a text of one or more decimal digits, at most 65,539
+abbrev pub face_of_text : List ℕ → Result ℕ RunFault
+face_of_text [] = Err Words
+face_of_text (digit ∷ digits) = digits_after 0 (digit ∷ digits)
+
+-- the index of a font by an optional text, 0 without it
+abbrev pub face_or_first : Option (List ℕ) → Result ℕ RunFault
+face_or_first None = Ok 0
+face_or_first (Some text) = face_of_text text
+
+-- the index of a font among the options
+abbrev pub face_in : Lookup → Result ℕ RunFault
+face_in value = face_or_first (value (codes "face"))
+
+-- the font file, the index of its font, the text and the options of `kuspveli`
+abbrev pub font_settings_of : Lookup → List (List ℕ) → Result FontSettings RunFault
+font_settings_of value features =
+    and_then (file_in (codes "font") value) (λ font.
+    and_then (face_in value) (λ face.
+    and_then (option_values value features) (λ options.
+    Ok (record { font = font; face = face; text = value (codes "text"); options = options }))))
+
+-- there is no text among the words
+abbrev pub no_text : Lookup → Result ⊤ RunFault
+no_text value = if is_some (value (codes "text")) then Err Words else Ok tt
+
+-- the font file and the index of the font that is to be printed, which needs no text and no other option
+abbrev pub printing_of : Lookup → Result FontRequest RunFault
+printing_of value =
+    and_then (file_in (codes "font") value) (λ font.
+    and_then (face_in value) (λ face.
+    and_then (no_text value) (λ none.
+    Ok (PrintingFont font face))))
+
+-- the request of `kuspveli`: help before the version, both before a font, and a font before a text
+abbrev pub request_of : Lookup → List (List ℕ) → Result FontRequest RunFault
+request_of value features =
+    if is_given (codes "help") value then Ok Usage
+    else if is_given (codes "version") value then Ok Version
+    else if is_given (codes "json") value then printing_of value
+    else and_then (font_settings_of value features) (λ settings. Ok (Shaping settings))
 
 -- the run's fault of a parsing error
 abbrev pub refusal_of : ErrorKind → RunFault
@@ -293,12 +416,18 @@ values_in found = unwrap_or found []
 abbrev pub feature_values : Found → List (List ℕ)
 feature_values found = values_in (option_map raw_values (matched_of found (codes "features")))
 
--- the options, where the command has these faults and values
-abbrev pub settings_or_fault : Kinds → List Row → Result Settings RunFault
-settings_or_fault [] rows = settings_of (λ id. first_of id rows) (values_in (all_of (codes "features") rows))
-settings_or_fault (fault ∷ faults) rows = Err Words
+-- what words say, where a command has these faults and values
+abbrev pub said_or_fault : {S : Type 0} → (Lookup → List (List ℕ) → Result S RunFault) → Kinds → List Row → Result S RunFault
+said_or_fault said [] rows = said (λ id. first_of id rows) (values_in (all_of (codes "features") rows))
+said_or_fault said (fault ∷ faults) rows = Err Words
 
--- the options of the command-line words, the first of which is the program's name; they are refused where the command
--- refuses them, and where the value of an option is not of its type
+-- the options and file names of the command-line words of `hb_shape`, the first of which is the program's name; they are
+-- refused where the command refuses them, and where the value of an option is not of its type
 unfoldable pub options_of : List (List ℕ) → Result Settings RunFault
-options_of words = settings_or_fault (fault_of hb_shape words) (matches_of hb_shape words)
+options_of words = said_or_fault settings_of (fault_of hb_shape words) (matches_of hb_shape words)
+
+-- the request of the command-line words of `kuspveli`, the first of which is the program's name; they are refused where
+-- the command refuses them, and, but beside help and version, where the font file is missing or the value of an option
+-- is not of its type
+unfoldable pub font_request_of : List (List ℕ) → Result FontRequest RunFault
+font_request_of words = said_or_fault request_of (fault_of kuspveli words) (matches_of kuspveli words)

@@ -3,11 +3,11 @@
 ghost use Rattle.std.specs.Prelude.{◌≡◌, ◌≢◌, ◌≤◌, IfOk, IfErr, OnOk, Ok, Err, map, string_bytes};
 ghost use Rattle.buffer_tags.specs.FeatureText.{feature_of_text};
 ghost use Rattle.clap.specs.Words.{found_of, first_value};
-ghost use Rattle.shell_words.specs.Words.{options_of, refusal_of, settings_of, settings_in, file_in, direction_in, script_in, flag_of, flags_in, feature_values, features_in, features_of, pieces_of, after, or_words, language_in, language_of_text, level_in, level_of_text, buffer_flags_in, consistent, is_given, printing_in};
+ghost use Rattle.shell_words.specs.Words.{options_of, refusal_of, settings_of, settings_in, option_values, values_of, file_in, direction_in, script_in, flag_of, flags_in, feature_values, features_in, features_of, pieces_of, after, or_words, language_in, language_of_text, level_in, level_of_text, buffer_flags_in, consistent, is_given, printing_in};
 ghost use Rattle.std.specs.Option.{option_map};
 ghost use Rattle.buffer_common.specs.Language.{language_text};
 
-use crate::command::command;
+use crate::command::hb_shape;
 use buffer_common::constants::BufferFlags;
 use buffer_common::direction::Direction;
 use buffer_common::language::{Language, LanguageFault};
@@ -50,13 +50,13 @@ pub fn parse_options<'a, S: AsStr>(alloc: Global, words: &'a [S]) -> Result<Comm
         → options_of (map S.text words.entry.now) ≡ Err e) }
     ensures faults { IfErr result (λ e. e ≢ RunFault.OutOfMemory → e ≡ RunFault.Words) }
 {
-    match command(alloc)?.try_get_matches_from(words) {
+    match hb_shape(alloc)?.try_get_matches_from(words) {
         Ok(matches) => read_options(alloc, &matches),
         Err(error) => Err(refusal(error.kind())),
     }
 }
 
-fn refusal(kind: ErrorKind) -> RunFault
+pub(crate) fn refusal(kind: ErrorKind) -> RunFault
     ensures { result ≡ refusal_of kind }
 {
     match kind {
@@ -75,32 +75,48 @@ fn read_options(alloc: Global, matches: &ArgMatches<'_>) -> Result<CommandLine, 
     let tables = read_name(alloc, matches, "tables")?;
     let font = read_name(alloc, matches, "font")?;
     let text = read_name(alloc, matches, "text")?;
+    let options = read_values_of(alloc, matches)?;
+    Ok(CommandLine {
+        tables,
+        font,
+        text,
+        options,
+    })
+}
+
+/// Reads the options, without the names beside them.
+pub(crate) fn read_values_of(alloc: Global, matches: &ArgMatches<'_>) -> Result<Options, RunFault>
+    ensures ok { IfOk result
+        (λ o. option_values (first_value (found_of matches.now)) (feature_values (found_of matches.now))
+        ≡ Ok (values_of o)) }
+    ensures refused { IfErr result (λ e. e ≢ RunFault.OutOfMemory
+        → option_values (first_value (found_of matches.now)) (feature_values (found_of matches.now)) ≡ Err e) }
+{
     let direction = read_direction(matches)?;
     let script = read_script(matches)?;
     let language = read_language(alloc, matches)?;
     let features = read_features(alloc, matches)?;
     let cluster_level = read_level(matches)?;
     let printing = read_printing(matches)?;
-    Ok(CommandLine {
-        tables,
-        font,
-        text,
-        options: Options {
-            direction,
-            script,
-            language,
-            features,
-            cluster_level,
-            buffer_flags: read_buffer_flags(matches),
-            flags: read_flags(matches),
-            slices: printing.slices,
-            lines: printing.lines,
-            keep_going: printing.keep_going,
-        },
+    Ok(Options {
+        direction,
+        script,
+        language,
+        features,
+        cluster_level,
+        buffer_flags: read_buffer_flags(matches),
+        flags: read_flags(matches),
+        slices: printing.slices,
+        lines: printing.lines,
+        keep_going: printing.keep_going,
     })
 }
 
-fn read_name(alloc: Global, matches: &ArgMatches<'_>, id: &str) -> Result<String, RunFault>
+pub(crate) fn read_name(
+    alloc: Global,
+    matches: &ArgMatches<'_>,
+    id: &str,
+) -> Result<String, RunFault>
     ensures ok { IfOk result (λ s. file_in id.now (first_value (found_of matches.now)) ≡ Ok (string_bytes s)) }
     ensures refused { IfErr result (λ e. e ≢ RunFault.OutOfMemory
         → file_in id.now (first_value (found_of matches.now)) ≡ Err e) }
@@ -280,7 +296,7 @@ fn consistent(printing: Printing) -> Result<Printing, RunFault>
 }
 
 /// Whether a switch is given.
-fn is_given(matches: &ArgMatches<'_>, id: &str) -> bool
+pub(crate) fn is_given(matches: &ArgMatches<'_>, id: &str) -> bool
     ensures { result ≡ is_given id.now (first_value (found_of matches.now)) }
 {
     matches.get_str(id) == Some("true")
