@@ -1,10 +1,10 @@
-/* paragraph TABLES LATIN ARABIC DEVANAGARI PNG: sets a paragraph of three scripts in lines, and draws it by cairo.
+/* paragraph LATIN ARABIC DEVANAGARI PNG: sets a paragraph of three scripts in lines, and draws it by cairo.
  *
  *     gcc -Iinclude examples/paragraph.c out/libkuspveli.a $(pkg-config --cflags --libs cairo) -o paragraph
  *
- * TABLES and the fonts are JSON (tools/unicode_to_json, tools/font_to_json) of DejaVu Sans, Noto Naskh Arabic and Noto Sans
- * Devanagari, which cairo finds by their names. A line may end after a space, where the slice after it is not flagged as
- * unsafe to break: then neither half has to be shaped again. */
+ * The fonts are the files of DejaVu Sans, Noto Naskh Arabic and Noto Sans Devanagari, which cairo finds by their names. A
+ * line may end after a space, where the slice after it is not flagged as unsafe to break: then neither half has to be
+ * shaped again. */
 #include <cairo.h>
 #include <stdio.h>
 #include <stdlib.h>
@@ -163,20 +163,18 @@ next_line (size_t first)
 int
 main (int count, char **words)
 {
-  if (count != 6) {
-    fprintf (stderr, "paragraph TABLES LATIN ARABIC DEVANAGARI PNG\n");
+  if (count != 5) {
+    fprintf (stderr, "paragraph LATIN ARABIC DEVANAGARI PNG\n");
     return 2;
   }
   kus_tables_t tables = KUS_TABLES_INIT;
   kus_font_t fonts[FONTS] = { KUS_FONT_INIT, KUS_FONT_INIT, KUS_FONT_INIT };
-  size_t length;
-  uint8_t *json = read_file (words[1], &length);
-  check (kus_tables_create (&tables, json, length), words[1]);
-  free (json);
+  check (kus_tables_create_default (&tables), "tables");
   for (int k = 0; k < FONTS; k++) {
-    json = read_file (words[2 + k], &length);
-    check (kus_font_create_with_tables (&fonts[k], &tables, json, length), words[2 + k]);
-    free (json);
+    size_t length;
+    uint8_t *bytes = read_file (words[1 + k], &length);
+    check (kus_font_create_from_bytes (&fonts[k], &tables, bytes, length, 0, KUS_FONT_DEFAULT), words[1 + k]);
+    free (bytes);
   }
   for (int k = 0; k < PARTS; k++) {
     shape (&parts[k], &fonts[parts[k].font]);
@@ -192,8 +190,8 @@ main (int count, char **words)
   cairo_set_font_size (cr, SIZE);
   double y = LEADING - 8;
   for (size_t first = 0; first < num_pieces; first = next_line (first), y += LEADING) draw_line (cr, first, next_line (first), y);
-  cairo_status_t status = cairo_surface_write_to_png (surface, words[5]);
-  if (status != CAIRO_STATUS_SUCCESS) fprintf (stderr, "paragraph: %s: %s\n", words[5], cairo_status_to_string (status));
+  cairo_status_t status = cairo_surface_write_to_png (surface, words[4]);
+  if (status != CAIRO_STATUS_SUCCESS) fprintf (stderr, "paragraph: %s: %s\n", words[4], cairo_status_to_string (status));
   cairo_destroy (cr);
   cairo_surface_destroy (surface);
   for (int k = 0; k < FONTS; k++) kus_font_destroy (&fonts[k]);

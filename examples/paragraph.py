@@ -1,8 +1,8 @@
-"""paragraph.py TABLES LATIN ARABIC DEVANAGARI PNG: sets a paragraph of three scripts in lines, and draws it by cairo.
+"""paragraph.py LATIN ARABIC DEVANAGARI PNG: sets a paragraph of three scripts in lines, and draws it by cairo.
 
-TABLES and the fonts are JSON (tools/unicode_to_json, tools/font_to_json) of DejaVu Sans, Noto Naskh Arabic and Noto Sans
-Devanagari, which cairo finds by their names. A line may end after a space, where the slice after it is not flagged as unsafe
-to break: then neither half has to be shaped again."""
+The fonts are the files of DejaVu Sans, Noto Naskh Arabic and Noto Sans Devanagari, which cairo finds by their names. A line
+may end after a space, where the slice after it is not flagged as unsafe to break: then neither half has to be shaped
+again."""
 
 import sys
 from itertools import groupby
@@ -81,10 +81,10 @@ def draw(context: cairo.Context, line: list[Piece], y: float, fonts: list[Font])
 
 
 def main(words: list[str]) -> None:
-    if len(words) != 5:
-        sys.exit("paragraph.py TABLES LATIN ARABIC DEVANAGARI PNG")
-    tables = Tables(Path(words[0]).read_bytes())
-    fonts = [Font(tables, Path(name).read_bytes()) for name in words[1:4]]
+    if len(words) != 4:
+        sys.exit("paragraph.py LATIN ARABIC DEVANAGARI PNG")
+    tables = Tables()
+    fonts = [Font.open(name, tables=tables) for name in words[:3]]
     pieces = [piece for at, (font, text) in enumerate(PARTS) for piece in pieces_of(at, text, fonts[font])]
     lines = lines_of(pieces)
     surface = cairo.ImageSurface(cairo.FORMAT_RGB24, WIDTH, MARGIN + LEADING * len(lines))
@@ -95,7 +95,7 @@ def main(words: list[str]) -> None:
     context.set_font_size(SIZE)
     for at, line in enumerate(lines):
         draw(context, line, LEADING * (at + 1) - 8, fonts)
-    surface.write_to_png(words[4])
+    surface.write_to_png(words[3])
 
 
 if __name__ == "__main__":

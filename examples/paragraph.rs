@@ -1,5 +1,5 @@
-//! paragraph TABLES SVG LATIN.json LATIN.ttf ARABIC.json ARABIC.ttf DEVANAGARI.json DEVANAGARI.ttf: sets a paragraph of three
-//! scripts in lines, and writes it as SVG, with the outlines of the fonts' table glyf.
+//! paragraph SVG LATIN ARABIC DEVANAGARI: sets a paragraph of three scripts in lines, and writes it as SVG, with the outlines
+//! of the fonts' table glyf.
 //!
 //!     cd bindings/rust; cargo run --offline --release --example paragraph -- ..
 //!
@@ -312,17 +312,18 @@ fn write_contour(path: &mut String, points: &[(Point, bool)]) {
 
 fn main() -> Result<(), Box<dyn Error>> {
     let words: Vec<String> = env::args().skip(1).collect();
-    let [tables, svg_file, files @ ..] = words.as_slice() else {
-        return Err("paragraph TABLES SVG LATIN.json LATIN.ttf ARABIC.json ARABIC.ttf DEVANAGARI.json DEVANAGARI.ttf".into());
+    let [svg_file, files @ ..] = words.as_slice() else {
+        return Err("paragraph SVG LATIN ARABIC DEVANAGARI".into());
     };
-    let mut tables = Tables::new(&fs::read(tables)?)?;
+    let mut tables = Tables::library()?;
     let (mut fonts, mut outlines) = (Vec::new(), Vec::new());
-    for pair in files.chunks_exact(2) {
-        fonts.push(Font::with_tables(&mut tables, &fs::read(&pair[0])?)?);
-        outlines.push(Outlines::new(fs::read(&pair[1])?).ok_or_else(|| format!("{}: no outlines", pair[1]))?);
+    for file in files {
+        let bytes = fs::read(file)?;
+        fonts.push(Font::from_slice_with_tables(&mut tables, &bytes, 0)?);
+        outlines.push(Outlines::new(bytes).ok_or_else(|| format!("{file}: no outlines"))?);
     }
     if fonts.len() != 3 {
-        return Err("three fonts are wanted, each as JSON and as a file".into());
+        return Err("three font files are wanted".into());
     }
     let (mut parts, mut pieces) = (Vec::new(), Vec::new());
     for (number, (font, text)) in PARTS.into_iter().enumerate() {

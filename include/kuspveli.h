@@ -1,16 +1,14 @@
 /* Kuspveli: a text shaper that is proved right. Numbers and structs are HarfBuzz's.
  *
- *     kus_tables_t tables = KUS_TABLES_INIT;
- *     kus_tables_create (&tables, tables_json, tables_length);
  *     kus_font_t font = KUS_FONT_INIT;
- *     kus_font_create_with_tables (&font, &tables, json, json_length);
+ *     kus_font_create_from_bytes (&font, NULL, file, file_length, 0, KUS_FONT_DEFAULT);
  *     kus_text_t text = kus_text ("office", 6);
  *     kus_shape (&font, &text, infos, room, positions, room, &count);
  *     kus_font_destroy (&font);
- *     kus_tables_destroy (&tables);
  *
  * What the caller has to keep, and nothing checks:
- *   - No pointer is NULL, not even one with length 0 (kus_text() fills them in).
+ *   - No pointer is NULL, not even one with length 0 (kus_text() fills them in), but for the tables of
+ *     kus_font_create_from_bytes().
  *   - A pointer and its length are of one array, which lives during the call and which no one writes meanwhile.
  *   - What a call writes (handles, arrays with room, count, glyph, extents) overlaps nothing else that is passed to it.
  *   - A kus_font_t is KUS_FONT_INIT or what the calls left in it. It may be moved, but of two copies one alone is used.
@@ -56,7 +54,7 @@ typedef struct {
 
 typedef uint32_t kus_status_t;
 
-/* The faults' names are those that the program hb_shape prints. */
+/* The faults' names are those that the programs hb_shape and kuspveli print. */
 enum {
   KUS_OK = 0,
   KUS_OUT_OF_MEMORY = 1,
@@ -78,7 +76,25 @@ enum {
   KUS_NO_FONT = 16,
   KUS_NO_TABLES = 17,
   /* the last text's glyphs don't fit the text that is given, so it has no slices */
-  KUS_NO_SLICES = 18
+  KUS_NO_SLICES = 18,
+  /* a font (JSON) was passed as tables, or tables as a font */
+  KUS_OTHER_FORMAT = 19,
+  /* of font files: a table, or the file, ends too early; a version or format that isn't known; numbers that fall where
+   * they may not; no font with the index; a table that every font has is missing; more rows than a font may have */
+  KUS_FONT_SHORT = 20,
+  KUS_FONT_KIND = 21,
+  KUS_FONT_ORDER = 22,
+  KUS_FONT_INDEX = 23,
+  KUS_FONT_MISSING = 24,
+  KUS_FONT_TOO_LARGE = 25
+};
+
+/* What of a font file is not read. Without the boxes of glyphs no glyph has one, also where marks are placed by boxes,
+ * as in a font without GPOS; without their names no glyph has one. */
+enum {
+  KUS_FONT_DEFAULT = 0,
+  KUS_FONT_WITHOUT_EXTENTS = 1,
+  KUS_FONT_WITHOUT_NAMES = 2
 };
 
 /* hb_direction_t; 0 is guessed from the script, and so is any other number. */
@@ -173,6 +189,10 @@ uint32_t kus_version (void);
 /* Reads tables (JSON). Tables that were there are let go; on a fault they stay. */
 kus_status_t kus_tables_create (kus_tables_t *tables, const uint8_t *json, size_t json_length);
 
+/* Makes the tables that are inside the library, those of Unicode 15.0. Tables that were there are let go; on a fault
+ * they stay. */
+kus_status_t kus_tables_create_default (kus_tables_t *tables);
+
 /* Makes `other` another handle of the tables; those that `other` had are let go. On a fault both stay as they were. */
 kus_status_t kus_tables_reference (kus_tables_t *tables, kus_tables_t *other);
 
@@ -187,6 +207,29 @@ kus_status_t kus_font_create_with_tables (kus_font_t *font, kus_tables_t *tables
  * a fault it stays. */
 kus_status_t kus_font_create (kus_font_t *font, const uint8_t *tables, size_t tables_length, const uint8_t *json,
                               size_t json_length);
+
+/* How many fonts a font file has: as many as a collection says, 1 in any other file; 0 where the bytes are no font
+ * file. */
+size_t kus_count_fonts (const uint8_t *bytes, size_t length);
+
+/* Reads the font with an index (0 is the first) of a font file: TrueType or OpenType with outlines of glyf, CFF or CFF2,
+ * a variable font at its default instance, or one of a collection. It shares the tables (_over), or has tables of its
+ * own, those that are inside the library (_alone). `flags` (KUS_FONT_WITHOUT_..) says what is not read. Nothing of the
+ * bytes is kept. A font that was there is dropped; on a fault it stays. */
+kus_status_t kus_font_create_from_bytes_over (kus_font_t *font, kus_tables_t *tables, const uint8_t *bytes,
+                                              size_t length, size_t index, uint32_t flags);
+kus_status_t kus_font_create_from_bytes_alone (kus_font_t *font, const uint8_t *bytes, size_t length, size_t index,
+                                               uint32_t flags);
+
+/* The same over tables, or where `tables` is NULL over those that are inside the library. */
+static inline kus_status_t
+kus_font_create_from_bytes (kus_font_t *font, kus_tables_t *tables, const uint8_t *bytes, size_t length, size_t index,
+                            uint32_t flags)
+{
+  if (tables)
+    return kus_font_create_from_bytes_over (font, tables, bytes, length, index, flags);
+  return kus_font_create_from_bytes_alone (font, bytes, length, index, flags);
+}
 
 /* Makes `other` another handle of the font, which shares what was read; a font that `other` had is dropped. On a fault
  * both stay as they were. */
@@ -274,7 +317,7 @@ kus_status_name (kus_status_t status)
     "OK",          "OutOfMemory", "J1 NotJson",    "J2 WrongShape", "J3 FloatNumber",  "J4 UnknownName",
     "U1 OutOfOrder", "U2 OutOfRange", "U3 SplitDepth", "Unlawful",      "NotUtf8",         "?",
     "S2 TooLong",  "S3 StretchRange", "S4 UnknownSyllableKind", "?", "NoFont",
-    "NoTables", "NoSlices"
+    "NoTables", "NoSlices", "OtherFormat", "F1 Short", "F2 Kind", "F3 Order", "F4 Index", "F5 Missing", "F6 TooLarge"
   };
   return status < sizeof names / sizeof *names ? names[status] : "?";
 }

@@ -8,7 +8,7 @@ import threading
 import weakref
 from array import array
 from itertools import accumulate
-from typing import Any, Callable, Iterable, Mapping, NamedTuple, Optional, Union
+from typing import Any, Callable, Iterable, Mapping, NamedTuple, Optional, Union, overload
 
 import kuspveli_library
 
@@ -17,14 +17,19 @@ NAMES = {
     1: "OutOfMemory", 2: "J1 NotJson", 3: "J2 WrongShape", 4: "J3 FloatNumber", 5: "J4 UnknownName",
     6: "U1 OutOfOrder", 7: "U2 OutOfRange", 8: "U3 SplitDepth", 9: "Unlawful", 10: "NotUtf8", 12: "S2 TooLong",
     13: "S3 StretchRange", 14: "S4 UnknownSyllableKind", 16: "NoFont", 17: "NoTables", 18: "NoSlices",
+    19: "OtherFormat", 20: "F1 Short", 21: "F2 Kind", 22: "F3 Order", 23: "F4 Index", 24: "F5 Missing",
+    25: "F6 TooLarge",
 }
 DIRECTIONS = {"": 0, "ltr": 4, "rtl": 5, "ttb": 6, "btt": 7}
 GLOBAL_END = 0xFFFF_FFFF
+# What of a font file is not read (KUS_FONT_WITHOUT_EXTENTS, KUS_FONT_WITHOUT_NAMES).
+WITHOUT_EXTENTS, WITHOUT_NAMES = 1, 2
 # What a tag is made of: printed ASCII characters (OpenType).
 TAG = re.compile(r"[\x20-\x7e]{1,4}")
 # A feature as text: -liga, +kern, kern=1, ccmp[0:3]=0, aalt[2]=3.
 FEATURE = re.compile(r"(?P<sign>[+-]?)(?P<tag>[^\s\[\]=+,-]+)(?P<range>\[(\d*)(:?)(\d*)\])?(?:=(?P<value>\d+))?")
-Text = Union[str, bytes, bytearray, memoryview]
+Bytes = Union[bytes, bytearray, memoryview]
+Text = Union[str, Bytes]
 
 
 # ---- the library
@@ -78,10 +83,14 @@ def load(path: Union[str, "os.PathLike[str]"]) -> ctypes.CDLL:
     rooms = [ctypes.POINTER(RawInfo), size, ctypes.POINTER(RawPosition), size]
     declare(found, "kus_version", u32)
     declare(found, "kus_tables_create", u32, handle, bytes_, size)
+    declare(found, "kus_tables_create_default", u32, handle)
     declare(found, "kus_tables_reference", u32, handle, handle)
     declare(found, "kus_tables_destroy", None, handle)
     declare(found, "kus_font_create", u32, handle, bytes_, size, bytes_, size)
     declare(found, "kus_font_create_with_tables", u32, handle, handle, bytes_, size)
+    declare(found, "kus_count_fonts", size, bytes_, size)
+    declare(found, "kus_font_create_from_bytes_over", u32, handle, handle, bytes_, size, size, u32)
+    declare(found, "kus_font_create_from_bytes_alone", u32, handle, bytes_, size, size, u32)
     declare(found, "kus_font_reference", u32, handle, handle)
     declare(found, "kus_font_destroy", None, handle)
     declare(found, "kus_shape", u32, handle, ctypes.POINTER(RawText), *rooms, ctypes.POINTER(size))
@@ -366,9 +375,20 @@ def utf8(text: Text, what: str) -> bytes:
         except UnicodeEncodeError as error:
             raise ValueError(f"{what}: the surrogate at {error.start} is no character") from None
     if isinstance(text, (bytes, bytearray, memoryview)):
-        # By the buffer, whose length no class can tell otherwise.
-        return memoryview(text).tobytes()
+        return own_bytes(text)
     raise TypeError(f"{what}: {type(text).__name__} is no str, bytes, bytearray or memoryview")
+
+
+def own_bytes(given: Bytes) -> bytes:
+    """By the buffer, whose length no class can tell otherwise."""
+    return given if type(given) is bytes else memoryview(given).tobytes()
+
+
+def file_bytes(given: Bytes) -> bytes:
+    """The bytes of a font file."""
+    if isinstance(given, (bytes, bytearray, memoryview)):
+        return own_bytes(given)
+    raise TypeError(f"font: {type(given).__name__} is no bytes, bytearray or memoryview (Font.open takes a path)")
 
 
 def direction_number(direction: str) -> int:
@@ -442,30 +462,78 @@ class Held:
 
 
 class Tables(Held):
-    """Tables of characters, syllables and languages (JSON), which fonts share."""
+    """Tables of characters, syllables and languages, which fonts share: those of JSON, else those of Unicode 15.0 that
+    are inside the library."""
 
     _destroy = staticmethod(LIBRARY.kus_tables_destroy)
     _reference = staticmethod(LIBRARY.kus_tables_reference)
 
-    def __init__(self, json: Text) -> None:
+    def __init__(self, json: Optional[Text] = None) -> None:
         super().__init__()
         need_stack(READING)
-        read = utf8(json, "tables")
+        read = None if json is None else utf8(json, "tables")
         with self._lock:
-            check(LIBRARY.kus_tables_create(self._handle, read, len(read)))
+            if read is None:
+                check(LIBRARY.kus_tables_create_default(self._handle))
+            else:
+                check(LIBRARY.kus_tables_create(self._handle, read, len(read)))
+
+
+def count_fonts(file: Bytes) -> int:
+    """How many fonts the bytes of a font file have; 0 where they are no font file."""
+    read = file_bytes(file)
+    count: int = LIBRARY.kus_count_fonts(read, len(read))
+    return count
 
 
 class Font(Held):
-    """A font (JSON) over tables. Threads may share it: a call waits while another one works on it. `another` gives a
-    thread its own, so that none waits."""
+    """A font of a font file over the tables that are inside the library, or over others. Threads may share it: a call
+    waits while another one works on it. `another` gives a thread its own, so that none waits."""
 
     _destroy = staticmethod(LIBRARY.kus_font_destroy)
     _reference = staticmethod(LIBRARY.kus_font_reference)
 
-    def __init__(self, tables: Union[Tables, Text], json: Text) -> None:
+    @overload
+    def __init__(
+        self, file: Bytes, /, *, index: int = 0, tables: Optional[Tables] = None, extents: bool = True, names: bool = True
+    ) -> None: ...
+
+    @overload
+    def __init__(self, tables: Union[Tables, Text], json: Text, /) -> None: ...
+
+    def __init__(self, first: Any, json: Optional[Text] = None, /, **settings: Any) -> None:
+        """The font with an index of the bytes of a font file (TrueType, OpenType, a collection), over the tables, or
+        over those that are inside the library; without the boxes of glyphs, or their names, where these are not asked
+        for. Nothing of the bytes is kept. With a second argument the arguments are tables and a font (JSON)."""
         super().__init__()
         need_stack(READING)
-        read = utf8(json, "font")
+        if json is None:
+            self._read_file(file_bytes(first), **settings)
+        elif settings:
+            raise TypeError(f"{next(iter(settings))}: a font of JSON has no such setting")
+        else:
+            self._read_json(first, utf8(json, "font"))
+
+    @classmethod
+    def open(cls, path: Union[str, "os.PathLike[str]"], index: int = 0, **settings: Any) -> "Font":
+        """The font with an index of a font file."""
+        with open(path, "rb") as file:
+            return cls(file.read(), index=index, **settings)
+
+    def _read_file(
+        self, read: bytes, *, index: int = 0, tables: Optional[Tables] = None, extents: bool = True, names: bool = True
+    ) -> None:
+        given = (read, len(read), number(index, "index"), (not extents) * WITHOUT_EXTENTS | (not names) * WITHOUT_NAMES)
+        if tables is None:
+            with self._lock:
+                check(LIBRARY.kus_font_create_from_bytes_alone(self._handle, *given))
+        elif isinstance(tables, Tables):
+            with self._lock, tables._lock:
+                check(LIBRARY.kus_font_create_from_bytes_over(self._handle, tables._handle, *given))
+        else:
+            raise TypeError(f"tables: {type(tables).__name__} is no Tables")
+
+    def _read_json(self, tables: Union[Tables, Text], read: bytes) -> None:
         if isinstance(tables, Tables):
             with self._lock, tables._lock:
                 check(LIBRARY.kus_font_create_with_tables(self._handle, tables._handle, read, len(read)))

@@ -20,14 +20,16 @@ from library_tests.cases import SETTINGS, Case, Script, scripts
 from library_tests.drivers import Tested
 from library_tests.times import measure, table
 from shaping.cache import cache_folder
-from shaping.cli import font_value, tables_file
+from shaping.converting import font_value, tables_file
 from shaping.program import run_one
+from shaping.sources import Converted
 from shaping.texts import Text
 
 NAME = "test_library"
 ABOUT = """Tests the library for C: its header as C99, C11 and C++ beside HarfBuzz's numbers and structs; the same texts from
-C, Rust (where cargo is there) and Python as from the program, with their slices; each allocation freed, by valgrind and
-by counts over many calls on four threads; each allocation of a call refused in turn; the stack that the header asks for;
+C, Rust (where cargo is there) and Python as from the program, with their slices, by a font's JSON and by its file; what
+the calls for font files answer, also of damaged ones; each allocation freed, by valgrind and by counts over many calls on
+four threads; each allocation of a call refused in turn; the stack that the header asks for;
 and what a word of each script takes by the kept plan, words of four scripts and texts of several scripts in turn,
 beside HarfBuzz's. It takes the proved program and library where they are built of the sources that stand here, else
 those without proofs, which it makes first, and says so. By --table it measures alone, and the table stands in a
@@ -36,6 +38,8 @@ document between its two lines."""
 ROOM = 8
 SHOWN = ("--no-glyph-names", "--show-flags", "--slices")
 CALLS = 1_000_000
+# The script whose font file is read with each of its allocations refused, and the calls that shape in it.
+REFUSED, FEW_CALLS = "Tamil", 20_000
 # How deep arrays and objects may nest in a file.
 DEEPEST = 127
 BEGIN, END = (f"<!-- tools/test_library --table {word} -->" for word in ("begins", "ends"))
@@ -85,21 +89,28 @@ def tell_tests(program: Path, tested: Tested, tables: Path, all_scripts: list[Sc
     for driver in drivers.build(work, library):
         found = 0
         for script in all_scripts:
-            lines = driver.lines(tables, fonts[script.font], ROOM, script.cases)
+            for given in ((tables, fonts[script.font]), (drivers.OWN_TABLES, script.font)):
+                lines = driver.lines(*given, ROOM, script.cases)
+                wrong += tell_differences(driver.name, script, expected[script.name], lines)
             found += len(script.cases)
-            wrong += tell_differences(driver.name, script, expected[script.name], lines)
-        tell(driver.name, f"{found} texts in {len(all_scripts)} scripts")
+        tell(driver.name, f"{found} texts in {len(all_scripts)} scripts, by JSON and by font files")
     latin, *_ = all_scripts
     some = [case.text for case in latin.cases if case.settings == SETTINGS[0] and case.text][:4]
+    tell("font files", drivers.try_fonts(work, library, tables, latin.font, some[0]))
     tell("memory", drivers.count_calls(work, library, (tables, fonts[latin.font]), calls, some))
-    return wrong + tell_stacks(tested, tables, fonts[latin.font])
+    refused = next(script for script in all_scripts if script.name == REFUSED)
+    of_file = (drivers.OWN_TABLES, refused.font), min(calls, FEW_CALLS), [refused.cases[0].text]
+    tell("memory by a font file", drivers.count_calls(work, library, *of_file))
+    return wrong + tell_stacks(tested, tables, fonts[latin.font], latin.font)
 
 
 def lines_of_program(program: Path, tables: Path, font: Path, cases: list[Case]) -> list[str]:
     """The program's line for each case."""
 
     def line(case: Case) -> str:
-        made = run_one(program, tables, font, Text(case.text.encode(), case.text), [*SHOWN, *case.settings.words])
+        made = run_one(
+            Converted(program, tables, font), Text(case.text.encode(), case.text), [*SHOWN, *case.settings.words]
+        )
         glyphs, *slices = made.glyphs.rstrip("\n").split("\n")
         return made.fault if made.status else f"{glyphs};{','.join(slices)}"
 
@@ -117,9 +128,9 @@ def tell_differences(driver: str, script: Script, expected: list[str], found: li
     return len(differ)
 
 
-def tell_stacks(tested: Tested, tables: Path, font: Path) -> int:
+def tell_stacks(tested: Tested, tables: Path, font: Path, file: Path) -> int:
     """Tells what the calls take of the stack, with files whose values nest as deep as they may, and deeper, and a font whose
-    lookups call each other as deep as they may; how many calls answered another status."""
+    lookups call each other as deep as they may, and a font file; how many calls answered another status."""
     nested = {depth: '{"x":' + '{"a":' * depth + "1" + "}" * depth + "}" for depth in (DEEPEST - 1, DEEPEST)}
     called = attacks.chain_of_calls(50)
     files = {
@@ -128,13 +139,14 @@ def tell_stacks(tested: Tested, tables: Path, font: Path) -> int:
         "too deep": ("{}", nested[DEEPEST], "office"),
         "deep calls": ("{}", json.dumps(called.font), called.text),
     }
-    read, refused = ["OK"] * 5, ["OK", "J1 NotJson", "J1 NotJson", "NoFont", "NoFont"]
+    by_file = ["OK"] * 3
+    read, refused = ["OK"] * 3 + by_file + ["OK"] * 2, ["OK", "J1 NotJson", "J1 NotJson", *by_file, "NoFont", "NoFont"]
     wrong, most = 0, [0, 0]
     for name, texts in files.items():
         paths = [tested.work / f"stack.{at}" for at in range(len(texts))]
         for path, text in zip(paths, texts, strict=True):
             write_over(path, text)
-        statuses, *taken = drivers.stack_taken(tested.work, tested.library, *paths)
+        statuses, *taken = drivers.stack_taken(tested.work, tested.library, [*paths, file])
         most = [max(pair) for pair in zip(most, taken, strict=True)]
         if statuses != (refused if name == "too deep" else read):
             print(f"stack: {name}: {', '.join(statuses)}")

@@ -3,6 +3,7 @@
 import os
 import re
 import shutil
+import struct
 import subprocess
 import sys
 from dataclasses import dataclass, field
@@ -20,6 +21,10 @@ BINDINGS = ROOT / "bindings"
 WARNINGS = ("-Wall", "-Wextra", "-Werror")
 VALGRIND = ("valgrind", "-q", "--leak-check=full", "--show-leak-kinds=all", "--errors-for-leak-kinds=all", "--error-exitcode=9")
 WRAPPED = ("malloc", "realloc", "aligned_alloc", "free")
+# In the place of a file of tables: the font is a font file, and the tables are those inside the library.
+OWN_TABLES = Path("-")
+# How many damaged font files are read, and how many of them under valgrind.
+DAMAGED, DAMAGED_SLOWLY = 2000, 20
 COUNTED = ("valgrind", "-q", "--tool=callgrind", "--instr-atstart=no")
 # How many calls a round of the driver beside HarfBuzz has, and the line of a count in callgrind's file.
 CALLS = 60
@@ -110,13 +115,37 @@ def count_calls(work: Path, library: Place, files: tuple[Path, Path], calls: int
     return call([program, *files, str(calls), *words]).strip()
 
 
-def stack_taken(work: Path, library: Place, tables: Path, font: Path, text: Path) -> tuple[list[str], int, int]:
+def try_fonts(work: Path, library: Place, tables: Path, font: Path, text: str) -> str:
+    """What the calls for font files answer of a font file, a collection of it, and damaged files."""
+    program, collection = compiled(work, "fonts", [library.file]), work / "collection"
+    write_over(collection, collection_of([font.read_bytes()] * 3))
+    words = [tables, font, collection, "3"]
+    call([*VALGRIND, program, *words, str(DAMAGED_SLOWLY), text])
+    return call([program, *words, str(DAMAGED), text]).strip()
+
+
+def collection_of(fonts: list[bytes]) -> bytes:
+    """The collection (OpenType, chapter 4) of font files of one font: each with its offsets from where the collection
+    begins."""
+    at = 12 + 4 * len(fonts)
+    offsets, made = [], b""
+    for font in fonts:
+        offsets.append(at + len(made))
+        font += bytes(-len(font) % 4)
+        [count] = struct.unpack_from(">H", font, 4)
+        rows = struct.iter_unpack(">4sIII", font[12 : 12 + 16 * count])
+        moved = [struct.pack(">4sIII", name, total, offset + offsets[-1], length) for name, total, offset, length in rows]
+        made += font[:12] + b"".join(moved) + font[12 + 16 * count :]
+    return struct.pack(f">4sII{len(fonts)}I", b"ttcf", 0x10000, len(fonts), *offsets) + made
+
+
+def stack_taken(work: Path, library: Place, given: list[Path]) -> tuple[list[str], int, int]:
     """The statuses of the calls on threads with stacks as small as the header says, and what calls that read and others
-    took of them, in bytes."""
+    took of them, in bytes. Tables, a font, a text and a font file are given."""
     program = work / "stack"
     if not program.exists():
         call(["gcc", "-std=gnu11", "-O2", *WARNINGS, f"-I{INCLUDE}", "-o", program, SOURCES / "stack.c", library.file, "-pthread"])
-    *statuses, bytes_ = call([program, tables, font, text]).strip().split(", ")
+    *statuses, bytes_ = call([program, *given]).strip().split(", ")
     reading, other = map(int, bytes_.split())
     return statuses, reading, other
 

@@ -1,4 +1,5 @@
-"""lines.py TABLES FONT ROOM < cases: the line of each case, from Python. The room is the wrapper's own."""
+"""lines.py TABLES FONT ROOM < cases: the line of each case, from Python. FONT is JSON, or where TABLES is - a font file. The
+room is the wrapper's own."""
 
 import sys
 from pathlib import Path
@@ -13,14 +14,20 @@ NO, NO_SLICES = "-", "NoSlices"
 
 
 def main() -> None:
-    tables, json = (Path(name).read_bytes() for name in sys.argv[1:3])
-    with kuspveli.Tables(tables) as shared, kuspveli.Font(shared, json) as font:
+    with font_of(*sys.argv[1:3]) as font:
         for line in sys.stdin:
             text, settings = case_of(line.split())
             try:
                 print(f"{line_of(font.shape(text, **settings))};{slices_of(font, text, settings)}")
             except kuspveli.Fault as fault:
                 print(fault)
+
+
+def font_of(tables: str, font: str) -> kuspveli.Font:
+    if tables == NO:
+        return kuspveli.Font.open(font)
+    with kuspveli.Tables(Path(tables).read_bytes()) as shared:
+        return kuspveli.Font(shared, Path(font).read_bytes())
 
 
 def slices_of(font: kuspveli.Font, text: bytes, settings: dict[str, Any]) -> str:

@@ -9,7 +9,7 @@ from common.host import first_line, host
 from library_tests import drivers
 from library_tests.cases import Script, Words, turns
 from library_tests.drivers import Beside, Tested
-from shaping.cli import font_value
+from shaping.converting import font_value
 from sources.crates import ROOT
 
 # A word by the kept plan is to cost less than so many of HarfBuzz's.

@@ -1,8 +1,6 @@
 """The command line of try_release: each way to install a release, in a root of its own, used and undone."""
 
 import argparse
-import subprocess
-import tempfile
 import time
 from dataclasses import dataclass
 from pathlib import Path
@@ -14,7 +12,6 @@ from releasing.cli import SUMS
 from releasing.debian import FONTTOOLS
 from releasing.roots import APT, Root, fresh, own_mounts
 from releasing.sums import read_list, sum_of
-from sources.crates import ROOT
 
 NAME = "try_release"
 ABOUT = """Installs what release made in FOLDER, uses it and removes it again, each way in a fresh root of Debian's
@@ -30,7 +27,6 @@ SHAPERS = ("kuspveli-shape", "kuspveli")
 NUMBERS = "--no-glyph-names"
 PICTURE = "/root/office.svg"
 CACHE = "/root/.cache"
-TABLES = "/given/data/tables.json"
 # What Python and pip keep beside their own modules.
 KEPT = "__pycache__"
 OURS = ("kuspveli", "kus_")
@@ -49,11 +45,6 @@ class Case:
     text: str
     line: str
 
-    @property
-    def json(self) -> str:
-        """The font as JSON, for what reads no font files."""
-        return f"/given/fonts/{self.script}.json"
-
 
 def main(words: list[str]) -> int:
     """Tries each way, and prints a line of each; the first that fails is a fault."""
@@ -67,14 +58,12 @@ def main(words: list[str]) -> int:
             parser.error(f"{way} is no way: {', '.join(WAYS)}")
     check_sums(options.folder)
     own_mounts()
-    with tempfile.TemporaryDirectory() as name:
-        write_fonts(Path(name))
-        given = {"release": options.folder, "fonts": Path(name), "programs": PROGRAMS, "data": ROOT / "data"}
-        for way in options.ways or WAYS:
-            begun = time.monotonic()
-            with fresh(options.roots.absolute(), way, {place: path.absolute() for place, path in given.items()}) as root:
-                told = WAYS[way](root, options.folder)
-            print(f"{way}: {told} ({time.monotonic() - begun:.0f} s)", flush=True)
+    given = {"release": options.folder, "programs": PROGRAMS}
+    for way in options.ways or WAYS:
+        begun = time.monotonic()
+        with fresh(options.roots.absolute(), way, {place: path.absolute() for place, path in given.items()}) as root:
+            told = WAYS[way](root, options.folder)
+        print(f"{way}: {told} ({time.monotonic() - begun:.0f} s)", flush=True)
     return 0
 
 
@@ -90,12 +79,6 @@ def check_sums(folder: Path) -> None:
 
 def cases() -> list[Case]:
     return [Case(*line.split("\t")) for line in LINES.read_text(encoding="utf-8").splitlines()]
-
-
-def write_fonts(folder: Path) -> None:
-    for case in cases():
-        with open(folder / f"{case.script}.json", "wb") as file:
-            subprocess.run([ROOT / "tools" / "font_to_json", case.font], stdout=file, stderr=subprocess.PIPE, check=True)
 
 
 # ---- what is tried of each way
@@ -129,13 +112,12 @@ def use_commands(root: Root, folder: str) -> str:
 
 
 def use_python(root: Root, python: str) -> None:
-    words = [python, "/given/programs/shape.py", TABLES]
-    check_lines(lambda case: root.run([*words, case.json, case.text], has_network=False), "Python")
+    words = [python, "/given/programs/shape.py"]
+    check_lines(lambda case: root.run([*words, case.font, case.text], has_network=False), "Python")
 
 
 def use_made(root: Root, program: str, what: str, **more: str) -> None:
-    words = [program, TABLES]
-    check_lines(lambda case: root.run([*words, case.json, case.text], has_network=False, **more), what)
+    check_lines(lambda case: root.run([program, case.font, case.text], has_network=False, **more), what)
 
 
 def check_root(root: Root, *, compiles: bool) -> None:

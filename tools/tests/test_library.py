@@ -5,6 +5,7 @@ import io
 import os
 import re
 import shutil
+import struct
 import subprocess
 import sys
 import tempfile
@@ -89,6 +90,25 @@ class Cases(unittest.TestCase):
                 self.assertEqual(len(words), 7)
                 self.assertEqual(b"" if text == "-" else bytes.fromhex(text), case.text.encode())
         self.assertIn("Devanagari", WORDS.read_text(encoding="utf-8"))
+
+
+class Collections(unittest.TestCase):
+    def test_offsets(self) -> None:
+        """Each font of a collection has its tables where its own directory says, and begins at a multiple of four."""
+        fonts = [(ROOT / "crates" / name / "data" / "font.ttf").read_bytes() for name in ("paragraph_example", "kuspveli_example")]
+        made = drivers.collection_of(fonts)
+        kind, version, count, *starts = struct.unpack_from(">4sIIII", made)
+        self.assertEqual((kind, version, count), (b"ttcf", 0x10000, 2))
+        for start, font in zip(starts, fonts, strict=True):
+            self.assertEqual(start % 4, 0)
+            self.assertEqual(tables_at(made, start), tables_at(font, 0))
+
+
+def tables_at(file: bytes, start: int) -> dict[bytes, bytes]:
+    """The tables of the font whose directory begins at an offset (OpenType, chapter 4)."""
+    [count] = struct.unpack_from(">H", file, start + 4)
+    rows = struct.iter_unpack(">4sIII", file[start + 12 : start + 12 + 16 * count])
+    return {name: file[offset : offset + length] for name, _, offset, length in rows}
 
 
 @needs_their_fonts

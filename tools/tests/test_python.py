@@ -7,11 +7,13 @@ import pickle
 import resource
 import signal
 import sys
+import tempfile
 import threading
 import unittest
 from array import array
 from pathlib import Path
 from types import ModuleType
+from typing import Any
 from unittest import mock
 
 import support  # noqa: F401
@@ -27,6 +29,16 @@ FONT = b"""{"upem":1000,"ascender":800,"cmap":[[97,1],[98,2],[102,3],[105,4],[23
 "h":[[1,500],[2,600],[3,300],[4,250],[5,510],[6,400],[7,520]],"extents":[[1,10,20,30,-40]],"names":[[2,"bee"]],
 "gsub":{"scripts":[["DFLT",{"features":[0]},[]]],"features":[["liga",[0]]],
 "lookups":[{"type":"ligature","subtables":[[[3,[[[4],7]]]]]}]}}"""
+
+# A font file of the tables cmap (format 4), head, hhea, hmtx and maxp: a and b are the glyphs 1 and 2, 500 and 600 units
+# wide. hb-shape prints 1=0+500|2=1+600 of it for ab.
+FILE = bytes.fromhex(
+    "000100000005004000020010636d6170000000000000005c0000002c686561640000000000000088000000366868656100000000000000c0"
+    "00000024686d747800000000000000e40000000c6d61787000000000000000f00000000600000001000300010000000c0004002000000004"
+    "0004000100000062ffff00000061ffffffa00001000000000001000000010000000000005f0f3cf5000003e8000000000000000000000000"
+    "000000000000000000000000000000080002000000000000000100000320ff38000002580000000000000001000000000000000000000000"
+    "000000030190000001f40000025800000000500000030000"
+)
 
 
 def module(library: Path | None) -> ModuleType:
@@ -184,6 +196,64 @@ class Answered(unittest.TestCase):
         with self.assertRaises(self.binding.Fault) as caught:
             self.binding.Font(tables, FONT)
         self.assertEqual(str(caught.exception), "NoTables")
+
+    def test_files(self) -> None:
+        """A font is read from bytes or by its path, over its own tables and over others; an index past the count is told."""
+        rows = [(1, 0, 500), (2, 1, 600)]
+
+        def shaped(font: Any) -> list[tuple[int, int, int]]:
+            return [(glyph.number, glyph.cluster, glyph.x_advance) for glyph in font.shape("ab")]
+
+        with tempfile.TemporaryDirectory() as folder, self.binding.Tables() as tables:
+            path = Path(folder) / "font.ttf"
+            path.write_bytes(FILE)
+            fonts = [self.binding.Font(given) for given in (FILE, bytearray(FILE), memoryview(FILE))]
+            fonts += [self.binding.Font.open(path), self.binding.Font.open(str(path), 0, tables=tables, names=False)]
+            fonts += [self.binding.Font(FILE, tables=self.binding.Tables(TABLES), extents=False)]
+            with self.assertRaises(self.binding.Fault) as caught:
+                self.binding.Font.open(path, 1)
+        self.assertEqual(str(caught.exception), "F4 Index")
+        self.assertEqual([shaped(font) for font in fonts], [rows] * len(fonts))
+        self.assertEqual([font.upem() for font in fonts], [1000] * len(fonts))
+        counts = [self.binding.count_fonts(given) for given in (FILE, b"ttcf\0\1\0\0\0\0\0\3", FONT, b"")]
+        self.assertEqual(counts, [1, 3, 0, 0])
+
+    def test_other_files(self) -> None:
+        """What is no font file is told, and what is no bytes is refused before the call."""
+        for given, wanted in ((FILE[:8], "F1 Short"), (FONT, "F2 Kind"), (FILE[:12].replace(b"\5", b"\0", 1), "F5 Missing")):
+            with self.assertRaises(self.binding.Fault) as caught:
+                self.binding.Font(given)
+            self.assertEqual(str(caught.exception), wanted)
+        refused = (
+            lambda: self.binding.Font("font.ttf"),
+            lambda: self.binding.Font(FILE, index="0"),
+            lambda: self.binding.Font(FILE, tables=TABLES),
+            lambda: self.binding.Font(TABLES, FONT, index=0),
+            lambda: self.binding.count_fonts("font.ttf"),
+        )
+        for call in refused:
+            self.assertRaises(TypeError, call)
+        self.assertRaises(ValueError, lambda: self.binding.Font(FILE, index=-1))
+        with self.binding.Tables() as tables:
+            pass
+        with self.assertRaises(self.binding.Fault) as caught:
+            self.binding.Font(FILE, tables=tables)
+        self.assertEqual(str(caught.exception), "NoTables")
+
+    def test_formats(self) -> None:
+        """JSON whose first key says that it is the other of tables and fonts is told."""
+        font, tables = b'{"format":"kuspveli-font",' + FONT[1:], b'{ "format" : "kuspveli-tables" }'
+        self.assertEqual(len(self.binding.Font(tables, font).shape("ab")), 2)
+        refused = (
+            lambda: self.binding.Tables(font),
+            lambda: self.binding.Font(font, font),
+            lambda: self.binding.Font(tables, tables),
+            lambda: self.binding.Font(self.binding.Tables(tables), tables),
+        )
+        for call in refused:
+            with self.assertRaises(self.binding.Fault) as caught:
+                call()
+            self.assertEqual((str(caught.exception), caught.exception.status), ("OtherFormat", 19))
 
     def test_faults(self) -> None:
         rows = ((TABLES, b"{", "J1 NotJson"), (b'{"splits":[[97,97,98]]}', FONT, "U3 SplitDepth"), (TABLES, b'{"upem":1.5}', "J3 FloatNumber"))

@@ -12,12 +12,11 @@ from pathlib import Path
 
 from support import write_files
 
-from building.places import LIBRARY, PROGRAM, standing
+from building.places import KUSPVELI, LIBRARY, standing
 from sources.crates import ROOT, read_crates
 from vendoring import cli as vendor
 
 TEXT = (ROOT / "README.md").read_text(encoding="utf-8")
-EXAMPLES = ROOT / "examples"
 LINES, COLUMNS = 120, 80
 SENTENCE = (
     "**For all texts, parsed fonts and lawful tables, an unrefused `shape` gives the glyphs and places of one plain "
@@ -25,10 +24,11 @@ SENTENCE = (
     "the monotone levels, for every shaper but the Indic, the glyph runs' slices join to the whole text, no coarser than "
     "the reading's joins and deletions.**"
 )
-# Of "afi": the glyphs of a, f and i in examples/font.json, with their advances.
-SHAPED = "1+500\n3+300\n4+250\n"
-# As a line, by names: the font has none.
-LINE = "gid1+500|gid3+300|gid4+250\n"
+# The font of the commands and of the programs, of the package fonts-dejavu-core.
+FONT = Path("/usr/share/fonts/truetype/dejavu/DejaVuSans.ttf")
+# Of "office", by hb-shape 6.0: numbers and advances of o, the ligature of f, f and i, c and e; and the line with names.
+SHAPED = "82+1253\n5044+1980\n70+1126\n72+1260\n"
+LINE = "o+1253|uniFB03+1980|c+1126|e+1260\n"
 LONG = os.environ.get("KUSPVELI_LONG")
 HAS_LIBRARY = standing(LIBRARY).is_current()
 
@@ -78,15 +78,15 @@ class Page(unittest.TestCase):
             self.assertGreater(len(names), 8, document)
             self.assertEqual(names - declared, set(), document)
 
-    @unittest.skipUnless(standing(PROGRAM).is_current(), "needs the program (tools/build)")
+    @unittest.skipUnless(standing(KUSPVELI).is_current() and FONT.is_file(), f"needs the program (tools/build) and {FONT}")
     def test_command(self) -> None:
         """The first command prints what the README says."""
-        found = re.search(r"^    (tools/hb_shape .*?\\\n.*?)\n\nprints `(.*?)`", TEXT, re.MULTILINE | re.DOTALL)
+        found = re.search(r"^    (tools/kuspveli .*)\n    (.*)$", TEXT, re.MULTILINE)
         assert found is not None
-        self.assertEqual(printed(["sh", "-c", found[1]], ROOT), f"{found[2]}\n")
+        self.assertEqual(printed(found[1].split(), ROOT), f"{found[2]}\n")
 
 
-@unittest.skipUnless(HAS_LIBRARY, "needs the library (tools/build_library, or with --unproved)")
+@unittest.skipUnless(HAS_LIBRARY and FONT.is_file(), f"needs the library (tools/build_library, or with --unproved) and {FONT}")
 class Programs(unittest.TestCase):
     def setUp(self) -> None:
         folder = tempfile.TemporaryDirectory()
@@ -96,14 +96,17 @@ class Programs(unittest.TestCase):
 
     @unittest.skipUnless(shutil.which("gcc"), "needs gcc")
     def test_c(self) -> None:
-        """By the command that stands in the program."""
+        """By the command that stands in the program, as in a clone where the library is built with its proofs or without."""
         text = program("c")
-        source, made = self.folder / "own.c", self.folder / "own"
-        source.write_text(text, encoding="utf-8")
         [command] = re.findall(r"// (gcc .*)", text)
-        words = [word.replace("../out", str(self.built)).replace("own.c", str(source)) for word in command.split()]
-        printed([*words, "-Wall", "-Werror", "-o", made], EXAMPLES)
-        self.assertEqual(printed([made], EXAMPLES), SHAPED)
+        for out in ("out", "out/unproved"):
+            root = self.folder / out.replace("/", "_")
+            write_files(root, {"examples/own.c": text})
+            (root / "include").symlink_to(ROOT / "include")
+            (root / out).parent.mkdir(parents=True, exist_ok=True)
+            (root / out).symlink_to(self.built)
+            printed([*command.split(), "-Wall", "-Werror", "-o", "own"], root / "examples")
+            self.assertEqual(printed([root / "examples" / "own"], ROOT), SHAPED)
 
     def test_python(self) -> None:
         source = self.folder / "own.py"
@@ -112,7 +115,7 @@ class Programs(unittest.TestCase):
             "PYTHONPATH": str(ROOT / "bindings" / "python"),
             "KUSPVELI_LIBRARY": str(self.built / "libkuspveli.so"),
         }
-        self.assertEqual(printed(["/usr/bin/python3", source], EXAMPLES, **found), SHAPED)
+        self.assertEqual(printed(["/usr/bin/python3", source], ROOT, **found), SHAPED)
 
     @unittest.skipUnless(shutil.which("cargo"), "needs cargo")
     def test_rust(self) -> None:
@@ -123,11 +126,11 @@ class Programs(unittest.TestCase):
         write_files(self.folder, {"Cargo.toml": package + named, "src/main.rs": text})
         found = {"KUSPVELI_OUT": str(self.built)}
         printed(["cargo", "build", "--quiet", "--offline"], self.folder, **found)
-        self.assertEqual(printed([self.folder / "target" / "debug" / "own"], EXAMPLES), SHAPED)
+        self.assertEqual(printed([self.folder / "target" / "debug" / "own"], ROOT), SHAPED)
 
 
 class Rattle(unittest.TestCase):
-    @unittest.skipUnless(LONG and shutil.which("rt"), "some minutes, and rt: KUSPVELI_LONG=1 runs it")
+    @unittest.skipUnless(LONG and shutil.which("rt") and FONT.is_file(), f"some minutes, rt and {FONT}: KUSPVELI_LONG=1 runs it")
     def test_program(self) -> None:
         """As a crate of a repository into which the library was copied, before any proof."""
         with tempfile.TemporaryDirectory() as folder:
@@ -137,7 +140,7 @@ class Rattle(unittest.TestCase):
             with contextlib.redirect_stdout(io.StringIO()):
                 vendor.main([folder])
             write_files(root / "crates" / "own", {"src/main.rt": program("rattle"), "specs/Lib.antt": ""})
-            shown = printed(["rt", "try", "--data", f"font.json={EXAMPLES / 'font.json'}"], root / "crates" / "own")
+            shown = printed(["rt", "try"], root / "crates" / "own")
         self.assertIn(LINE, shown)
 
 

@@ -26,7 +26,7 @@ from beside.works import Measure, Work
 from building.places import LIBRARY, PROGRAM, standing
 from common.faults import ToolFault
 from shaping.cache import cache_folder
-from shaping.cli import tables_file
+from shaping.converting import tables_file
 
 # The longest list has 73 words; one of fewer than 30 says little of a language.
 FEWEST, MOST = 30, 80

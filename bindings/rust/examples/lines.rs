@@ -1,4 +1,5 @@
-//! lines TABLES FONT ROOM < cases: the line of each case, as tools/test_library reads it. The room is the wrapper's own.
+//! lines TABLES FONT ROOM < cases: the line of each case, as tools/test_library reads it. FONT is JSON, or where TABLES is -
+//! a font file. The room is the wrapper's own.
 
 use kuspveli::{ClusterLevel, Direction, Fault, Feature, Flags, Font, Glyphs, Slice, Tables, Tag, Text};
 use std::fmt::Write;
@@ -81,13 +82,18 @@ fn slices_line(slices: Result<Vec<Slice>, Fault>) -> String {
     }
 }
 
+fn font(tables: &str, font: &str) -> Result<Font, Box<dyn Error>> {
+    let read = fs::read(font)?;
+    let mut first = match tables {
+        "-" => Font::from_slice(&read, 0)?,
+        tables => Font::with_tables(&mut Tables::new(&fs::read(tables)?)?, &read)?,
+    };
+    Ok(first.another()?)
+}
+
 fn main() -> Result<(), Box<dyn Error>> {
     let words: Vec<String> = env::args().collect();
-    let mut tables = Tables::new(&fs::read(&words[1])?)?;
-    let mut first = Font::with_tables(&mut tables, &fs::read(&words[2])?)?;
-    let mut font = first.another()?;
-    drop(first);
-    drop(tables);
+    let mut font = font(&words[1], &words[2])?;
     for case in io::stdin().lines() {
         let case = case?;
         let parts: Vec<&str> = case.split(' ').collect();

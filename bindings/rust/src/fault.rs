@@ -2,7 +2,7 @@
 
 use std::fmt;
 
-/// Why a call was refused. Its text is the name that the program `hb_shape` prints.
+/// Why a call was refused. Its text is the name that the programs `hb_shape` and `kuspveli` print.
 #[derive(Clone, Copy, PartialEq, Eq, Debug)]
 pub enum Fault {
     OutOfMemory,
@@ -20,6 +20,20 @@ pub enum Fault {
     UnknownSyllableKind,
     /// The last text's glyphs can't be traced to the text that was given.
     NoSlices,
+    /// A font (JSON) was passed as tables, or tables as a font.
+    OtherFormat,
+    /// A table of the font file, or the file, ends too early.
+    FontShort,
+    /// A version or format of the font file is not known.
+    FontKind,
+    /// Numbers of the font file fall where they may not.
+    FontOrder,
+    /// The file has no font with the index.
+    FontIndex,
+    /// A table that every font has is missing.
+    FontMissing,
+    /// The font has more rows than a font may have.
+    FontTooLarge,
     /// A status that the header does not name.
     Other(u32),
 }
@@ -41,6 +55,13 @@ impl Fault {
             13 => Fault::StretchRange,
             14 => Fault::UnknownSyllableKind,
             18 => Fault::NoSlices,
+            19 => Fault::OtherFormat,
+            20 => Fault::FontShort,
+            21 => Fault::FontKind,
+            22 => Fault::FontOrder,
+            23 => Fault::FontIndex,
+            24 => Fault::FontMissing,
+            25 => Fault::FontTooLarge,
             other => Fault::Other(other),
         }
     }
@@ -70,6 +91,13 @@ impl fmt::Display for Fault {
             Fault::StretchRange => "S3 StretchRange",
             Fault::UnknownSyllableKind => "S4 UnknownSyllableKind",
             Fault::NoSlices => "NoSlices",
+            Fault::OtherFormat => "OtherFormat",
+            Fault::FontShort => "F1 Short",
+            Fault::FontKind => "F2 Kind",
+            Fault::FontOrder => "F3 Order",
+            Fault::FontIndex => "F4 Index",
+            Fault::FontMissing => "F5 Missing",
+            Fault::FontTooLarge => "F6 TooLarge",
             Fault::Other(status) => return write!(f, "status {status}"),
         })
     }

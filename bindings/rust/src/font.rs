@@ -29,6 +29,11 @@ impl Table {
     }
 }
 
+/// How many fonts the bytes of a font file have; 0 where they are no font file.
+pub fn count_fonts(bytes: &[u8]) -> usize {
+    unsafe { kus_count_fonts(bytes.as_ptr(), bytes.len()) }
+}
+
 /// A font with its tables, and the glyphs of the last text. It may be moved to another thread; `another` gives a thread
 /// its own.
 pub struct Font {
@@ -66,6 +71,26 @@ impl Font {
         let mut font = Font::empty();
         Fault::check(unsafe {
             kus_font_create_with_tables(&mut font.handle, &mut tables.handle, json.as_ptr(), json.len())
+        })?;
+        Ok(font)
+    }
+
+    /// Reads the font with an index of the bytes of a font file (TrueType, OpenType, a collection) over tables of its
+    /// own, those that are inside the library. Nothing of the bytes is kept.
+    pub fn from_slice(bytes: &[u8], index: usize) -> Result<Font, Fault> {
+        let mut font = Font::empty();
+        Fault::check(unsafe {
+            kus_font_create_from_bytes_alone(&mut font.handle, bytes.as_ptr(), bytes.len(), index, 0)
+        })?;
+        Ok(font)
+    }
+
+    /// Reads the font with an index of the bytes of a font file over tables, which it shares.
+    pub fn from_slice_with_tables(tables: &mut Tables, bytes: &[u8], index: usize) -> Result<Font, Fault> {
+        let mut font = Font::empty();
+        let (at, length) = (bytes.as_ptr(), bytes.len());
+        Fault::check(unsafe {
+            kus_font_create_from_bytes_over(&mut font.handle, &mut tables.handle, at, length, index, 0)
         })?;
         Ok(font)
     }

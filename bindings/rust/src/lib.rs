@@ -3,10 +3,9 @@
 //! writes is borrowed by no one else.
 //!
 //! ```no_run
-//! use kuspveli::{Font, Tables, Text};
+//! use kuspveli::{Font, Text};
 //!
-//! let mut tables = Tables::new(&std::fs::read("tables.json")?)?;
-//! let mut font = Font::with_tables(&mut tables, &std::fs::read("font.json")?)?;
+//! let mut font = Font::from_slice(&std::fs::read("DejaVuSans.ttf")?, 0)?;
 //! let glyphs = font.shape(&Text::new("office"))?;
 //! # Ok::<(), Box<dyn std::error::Error>>(())
 //! ```
@@ -18,7 +17,7 @@ mod settings;
 mod tables;
 
 pub use fault::Fault;
-pub use font::{Font, Glyphs, Table};
+pub use font::{Font, Glyphs, Table, count_fonts};
 pub use raw::{GlyphExtents, GlyphInfo, GlyphPosition, Slice};
 pub use settings::{ClusterLevel, Direction, Feature, Flags, NoFeature, NoTag, Tag, Text};
 pub use tables::Tables;

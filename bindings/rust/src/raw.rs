@@ -81,6 +81,7 @@ pub(crate) struct RawText {
 extern "C" {
     pub(crate) fn kus_version() -> u32;
     pub(crate) fn kus_tables_create(tables: *mut Handle, json: *const u8, json_length: usize) -> u32;
+    pub(crate) fn kus_tables_create_default(tables: *mut Handle) -> u32;
     pub(crate) fn kus_tables_reference(tables: *mut Handle, other: *mut Handle) -> u32;
     pub(crate) fn kus_tables_destroy(tables: *mut Handle);
     pub(crate) fn kus_font_create(
@@ -95,6 +96,22 @@ extern "C" {
         tables: *mut Handle,
         json: *const u8,
         json_length: usize,
+    ) -> u32;
+    pub(crate) fn kus_count_fonts(bytes: *const u8, length: usize) -> usize;
+    pub(crate) fn kus_font_create_from_bytes_over(
+        font: *mut Handle,
+        tables: *mut Handle,
+        bytes: *const u8,
+        length: usize,
+        index: usize,
+        flags: u32,
+    ) -> u32;
+    pub(crate) fn kus_font_create_from_bytes_alone(
+        font: *mut Handle,
+        bytes: *const u8,
+        length: usize,
+        index: usize,
+        flags: u32,
     ) -> u32;
     pub(crate) fn kus_font_reference(font: *mut Handle, other: *mut Handle) -> u32;
     pub(crate) fn kus_font_destroy(font: *mut Handle);

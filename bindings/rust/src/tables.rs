@@ -1,7 +1,7 @@
 //! Tables, which fonts share.
 
 use crate::fault::Fault;
-use crate::raw::{Handle, kus_tables_create, kus_tables_destroy, kus_tables_reference};
+use crate::raw::{Handle, kus_tables_create, kus_tables_create_default, kus_tables_destroy, kus_tables_reference};
 
 /// Tables of characters, syllables and languages. They may be moved to another thread; `another` gives a thread its own
 /// handle of them.
@@ -17,6 +17,13 @@ impl Tables {
     pub fn new(json: &[u8]) -> Result<Tables, Fault> {
         let mut tables = Tables { handle: Handle::EMPTY };
         Fault::check(unsafe { kus_tables_create(&mut tables.handle, json.as_ptr(), json.len()) })?;
+        Ok(tables)
+    }
+
+    /// The tables that are inside the library, those of Unicode 15.0.
+    pub fn library() -> Result<Tables, Fault> {
+        let mut tables = Tables { handle: Handle::EMPTY };
+        Fault::check(unsafe { kus_tables_create_default(&mut tables.handle) })?;
         Ok(tables)
     }
 

@@ -1,6 +1,6 @@
 //! What a font says of itself, of a font of four characters whose numbers stand in examples/ligature_font.json.
 
-use kuspveli::{Fault, Font};
+use kuspveli::{count_fonts, Fault, Font, Tables, Text};
 
 #[test]
 fn fonts_answer_from_their_json() -> Result<(), Fault> {
@@ -10,4 +10,31 @@ fn fonts_answer_from_their_json() -> Result<(), Fault> {
     let mut silent = Font::new(b"{}", b"{\"ascender\":-8}")?;
     assert_eq!((silent.upem(), silent.ascender()), (0, -8));
     Ok(())
+}
+
+/// Of crates/paragraph_example/data/font.ttf hb-shape prints 7=0+520|2=2+600 for "fib".
+#[test]
+fn fonts_are_read_from_files() -> Result<(), Fault> {
+    let file = include_bytes!("../../../crates/paragraph_example/data/font.ttf");
+    let mut tables = Tables::library()?;
+    for mut font in [Font::from_slice(file, 0)?, Font::from_slice_with_tables(&mut tables, file, 0)?] {
+        assert_eq!((font.upem(), font.ascender(), font.nominal_glyph('b')), (1000, 800, Some(2)));
+        let glyphs = font.shape(&Text::new("fib"))?;
+        let pairs = glyphs.infos.iter().zip(glyphs.positions);
+        let shaped: Vec<_> = pairs.map(|(info, at)| (info.codepoint, info.cluster, at.x_advance)).collect();
+        assert_eq!(shaped, [(7, 0, 520), (2, 2, 600)]);
+    }
+    assert_eq!(Font::from_slice(file, 1).err(), Some(Fault::FontIndex));
+    assert_eq!(Font::from_slice(&file[..11], 0).err(), Some(Fault::FontShort));
+    assert_eq!(Font::from_slice(b"{\"upem\":1000}", 0).err(), Some(Fault::FontKind));
+    assert_eq!([count_fonts(file), count_fonts(b"ttcf\0\x01\0\0\0\0\0\x03"), count_fonts(b"")], [1, 3, 0]);
+    Ok(())
+}
+
+#[test]
+fn other_formats_are_refused() {
+    let (font, tables) = (b"{\"format\":\"kuspveli-font\"}", b"{\"format\":\"kuspveli-tables\"}");
+    assert_eq!(Tables::new(font).err(), Some(Fault::OtherFormat));
+    assert_eq!(Font::new(tables, tables).err(), Some(Fault::OtherFormat));
+    assert!(Font::new(tables, font).is_ok());
 }

@@ -6,8 +6,10 @@ use Rattle.buffer_core.specs.Sides.{Sides}
 use Rattle.buffer_tags.specs.declared.feature.Feature.{Feature}
 use Rattle.c_text.specs.declared.segment.Segment.{Segment}
 use Rattle.c_text.specs.declared.types.kus_text_t.{kus_text_t}
-use Rattle.c_text.specs.Fonts.{AreGlyphsOf, AreShaped, HasSegmentOf, IsFaultOf, IsUnshaped, KeptFont, new_font}
+use Rattle.c_text.specs.Fonts.{AreGlyphsOf, AreShaped, HasSegmentOf, IsFaultOf, IsFaultOfFile, IsUnshaped, KeptFont, new_font}
 use Rattle.c_text.specs.Texts.{IsTextOf, features_of, text_fault}
+use Rattle.font_file.specs.declared.parts.FontParts.{FontParts}
+use Rattle.shell_fonts.specs.Fonts.{AreLibraryTables, font_of}
 use Rattle.shell_readers.specs.declared.fault.RunFault.{RunFault}
 use Rattle.shell_readers.specs.declared.fault.RunFault.TheVariants.{OutOfMemory}
 use Rattle.shell_readers.specs.declared.input.RunInput.{RunInput}
@@ -32,6 +34,16 @@ fault_of_tables tables font e fault memory = tables_faulty tables font e (fault 
 pub fault_of_font : (tables font : List ℕ) (t : TextTables) (e : RunFault)
     → AreLawfulTables tables (Ok (tables_value t)) → (e ≢ OutOfMemory → font_in font ≡ Err e) → e ≢ OutOfMemory → IsInput tables font (Err e)
 fault_of_font tables font t e lawful fault memory = font_refused tables font (tables_value t) e lawful (fault memory)
+
+-- ---- font files
+
+pub fault_of_library : (parts : FontParts) (bytes : List ℕ) (index : ℕ) (e : RunFault)
+    → (e ≢ OutOfMemory → AreLibraryTables (Err e)) → e ≢ OutOfMemory → IsFaultOfFile parts bytes index e
+fault_of_library parts bytes index e fault memory = inl (fault memory)
+
+pub fault_of_file : (parts : FontParts) (bytes : List ℕ) (index : ℕ) (e : RunFault)
+    → (e ≢ OutOfMemory → font_of parts bytes index ≡ Err e) → e ≢ OutOfMemory → IsFaultOfFile parts bytes index e
+fault_of_file parts bytes index e fault memory = inr (fault memory)
 
 -- ---- texts
 

@@ -1,5 +1,5 @@
 -- Fonts as C keeps them, and what a call gives.
-use Rattle.std.specs.Prelude.{ℕ, ◌≡◌, ◌⊎◌, List, Option, Some, None, Ok}
+use Rattle.std.specs.Prelude.{ℕ, ◌≡◌, ◌⊎◌, List, Option, Some, None, Ok, Err}
 use Rattle.std.specs.Option.{option_map, option_map_or}
 use Rattle.buffer_core.specs.Segment.{after_guess_segment_properties}
 use Rattle.buffer_core.specs.Sides.{Sides, empty_buffer}
@@ -10,6 +10,8 @@ use Rattle.script_categories.specs.LongestMatch.{syllable_at}
 use Rattle.shape_pipeline.specs.Results.{IsRefusedBy, IsShapedBy}
 use Rattle.shape_pipeline.specs.Shaped.{by_text}
 use Rattle.shape_pipeline.specs.Shaping.{Shaping}
+use Rattle.font_file.specs.declared.parts.FontParts.{FontParts}
+use Rattle.shell_fonts.specs.Fonts.{AreLibraryTables, font_of}
 use Rattle.shell_readers.specs.declared.fault.RunFault.{RunFault}
 use Rattle.shell_readers.specs.declared.input.RunInput.{RunInput}
 use Rattle.shell_readers.specs.Fault.{fault_of_cause}
@@ -63,6 +65,30 @@ pub record HasReadTables (bytes : List ℕ) (kept : Option TextTables) : Type 0 
   pub tables : TextTables
   pub read : AreLawfulTables bytes (Ok (tables_value tables))
   pub same : kept ≡ Some tables
+
+-- tables are those that the library has
+pub record HasLibraryTables (kept : Option TextTables) : Type 0 where
+  pub tables : TextTables
+  pub read : AreLibraryTables (Ok (tables_value tables))
+  pub same : kept ≡ Some tables
+
+-- a font is what the reader answers to parts of a font of a font file, over tables that are there
+pub record HasReadFileOver (shared : Option TextTables) (parts : FontParts) (bytes : List ℕ) (index : ℕ) (kept : Option KeptFont) : Type 0 where
+  pub input : RunInput
+  pub tables : shared ≡ Some input.tables
+  pub read : font_of parts bytes index ≡ Ok input.face
+  pub new : kept ≡ Some (new_font input)
+
+-- a font is what the reader answers to parts of a font of a font file, over the tables that the library has
+pub record HasReadFile (parts : FontParts) (bytes : List ℕ) (index : ℕ) (kept : Option KeptFont) : Type 0 where
+  pub input : RunInput
+  pub tables : AreLibraryTables (Ok (tables_value input.tables))
+  pub read : font_of parts bytes index ≡ Ok input.face
+  pub new : kept ≡ Some (new_font input)
+
+-- the fault of a font file that is read over the tables that the library has: that of these, else the font's
+abbrev pub IsFaultOfFile : FontParts → List ℕ → ℕ → RunFault → Type 0
+IsFaultOfFile parts bytes index e = AreLibraryTables (Err e) ⊎ (font_of parts bytes index ≡ Err e)
 
 -- ---- texts
 

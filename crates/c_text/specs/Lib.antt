@@ -1,4 +1,5 @@
 pub mod Numbers
+pub mod Formats
 pub mod Texts
 pub mod Written
 pub mod Ownership

@@ -1,5 +1,5 @@
 -- C's numbers of settings and of faults.
-use Rattle.std.specs.Prelude.{ℕ, ◌==◌, if◌then◌else◌, Option, Some, None}
+use Rattle.std.specs.Prelude.{ℕ, ◌==◌, if◌then◌else◌, Option, Some, None, Result, Ok, Err, bit_and}
 use Rattle.buffer_common.specs.declared.direction.Direction.{Direction}
 use Rattle.buffer_common.specs.declared.direction.Direction.TheVariants.{Invalid, LeftToRight, RightToLeft, TopToBottom, BottomToTop}
 use Rattle.buffer_common.specs.declared.script.Script.{Script}
@@ -7,6 +7,10 @@ use Rattle.buffer_common.specs.Script.{script_of_tag}
 use Rattle.buffer_glyphs.specs.declared.level.BufferClusterLevel.{BufferClusterLevel}
 use Rattle.buffer_glyphs.specs.declared.level.BufferClusterLevel.TheVariants.{MonotoneGraphemes, MonotoneCharacters, Characters, Graphemes}
 use Rattle.buffer_glyphs.specs.declared.cause.ShapeCause.TheVariants as cause
+use Rattle.font_bytes.specs.declared.font_fault.FontFault.{FontFault}
+use Rattle.font_file.specs.declared.parts.FontParts.{FontParts}
+use Rattle.font_bytes.specs.declared.fault.TableFault.{TableFault}
+use Rattle.font_bytes.specs.declared.fault.TableFault.TheVariants as table
 use Rattle.shell_json.specs.declared.fault.JsonFault.TheVariants as json
 use Rattle.shell_readers.specs.declared.fault.RunFault.{RunFault}
 use Rattle.shell_readers.specs.declared.fault.RunFault.TheVariants as run
@@ -37,6 +41,16 @@ script_number (Some s) = s.0.0
 abbrev pub level_numbered : ℕ → BufferClusterLevel
 level_numbered n = if n == 1 then MonotoneCharacters else if n == 2 then Characters else if n == 3 then Graphemes else MonotoneGraphemes
 
+-- the number of a font file's cause: 20 to 25, 1 for lack of memory
+abbrev pub font_fault_number : TableFault → ℕ
+font_fault_number table.OutOfMemory = 1
+font_fault_number (table.Short at) = 20
+font_fault_number (table.Kind at) = 21
+font_fault_number (table.Order at) = 22
+font_fault_number table.Index = 23
+font_fault_number table.Missing = 24
+font_fault_number table.TooLarge = 25
+
 -- the number of a fault: 1 for lack of memory, in whichever step, and one for each other cause; 15 for those of the program's
 -- words, files and lines, which no call has
 abbrev pub fault_number : RunFault → ℕ
@@ -55,8 +69,18 @@ fault_number run.NotUtf8 = 10
 fault_number (run.Shape cause.TooLong) = 12
 fault_number (run.Shape cause.StretchRange) = 13
 fault_number (run.Shape cause.UnknownSyllableKind) = 14
+fault_number (run.Font fault) = font_fault_number fault.cause
 fault_number run.Words = 15
 fault_number run.Read = 15
 fault_number run.ReadLimit = 15
 fault_number (run.Line _ _) = 15
 fault_number run.Write = 15
+
+-- the parts of a font that are read without those of numbers: 1 for boxes, 2 for names
+abbrev pub parts_without : ℕ → FontParts
+parts_without number = record { extents = bit_and number 1 == 0; names = bit_and number 2 == 0 }
+
+-- how many fonts a file has, 0 where it is no font file
+abbrev pub count_of : Result ℕ FontFault → ℕ
+count_of (Ok count) = count
+count_of (Err e) = 0

@@ -2,8 +2,10 @@
 ghost use Rattle.std.specs.Prelude.{◌≡◌, ◌≢◌, IfErr, IfOk, Ok, Err, OnErr, OnOk, false, length, map};
 ghost use Rattle.buffer_core.specs.Sides.{all_glyphs, empty_buffer};
 ghost use Rattle.c_text.specs.Written.{info_of, position_of, with_front};
+ghost use Rattle.shell_fonts.specs.Fonts.{AreLibraryTables, font_of};
 ghost use Rattle.shell_readers.specs.Input.{IsInput, font_in, input_value};
-ghost use Rattle.c_text.specs.Fonts.{AreGlyphsOf, HasSegmentOf, IsFaultOf, new_font};
+ghost use Rattle.shell_readers.specs.Tables.{tables_value};
+ghost use Rattle.c_text.specs.Fonts.{AreGlyphsOf, HasSegmentOf, IsFaultOf, IsFaultOfFile, new_font};
 ghost use Rattle.c_text.specs.Plans.{HasPlansOf};
 ghost use Rattle.c_text.specs.Queries.{AreSlicesOf, IsSlicesRefusal};
 
@@ -16,6 +18,7 @@ use crate::types::{kus_glyph_info_t, kus_glyph_position_t, kus_slice_t, kus_text
 use crate::written::write_front;
 use buffer_core::buffer::hb_buffer_t;
 use buffer_wrappers::glyphs::GlyphBuffer;
+use font_file::FontParts;
 use layout_face::Face;
 use plan_cache::PlanCache;
 use shell_readers::fault::RunFault;
@@ -83,6 +86,44 @@ impl Font {
     {
         let tables = tables.another()?;
         let input = Input::read(alloc, tables, font)?;
+        let made = Font::new(alloc, input)?;
+        Ok(made)
+    }
+
+    /// Reads parts of a font of a font file over tables, which it shares.
+    pub fn read_file_over(
+        alloc: Global,
+        tables: &Tables,
+        bytes: &[u8],
+        index: usize,
+        parts: FontParts,
+    ) -> Result<Box<Font>, RunFault>
+        ensures new { IfOk result (λ f. f.value ≡ new_font f.value.input) }
+        ensures tables { IfOk result (λ f. f.value.input.tables ≡ tables.now) }
+        ensures ok { IfOk result (λ f. font_of parts bytes.now index ≡ Ok f.value.input.face) }
+        ensures refused { IfErr result (λ e. e ≢ RunFault.OutOfMemory → font_of parts bytes.now index ≡ Err e) }
+    {
+        let tables = tables.another()?;
+        let input = Input::read_file(alloc, tables, bytes, index, parts)?;
+        let made = Font::new(alloc, input)?;
+        Ok(made)
+    }
+
+    /// Reads parts of a font of a font file, over tables of its own, which are those that the library has.
+    #[tactic(auto, using(crate::proofs::Fonts::fault_of_library, crate::proofs::Fonts::fault_of_file))]
+    pub fn read_file(
+        alloc: Global,
+        bytes: &[u8],
+        index: usize,
+        parts: FontParts,
+    ) -> Result<Box<Font>, RunFault>
+        ensures new { IfOk result (λ f. f.value ≡ new_font f.value.input) }
+        ensures tables { IfOk result (λ f. AreLibraryTables (Ok (tables_value f.value.input.tables))) }
+        ensures ok { IfOk result (λ f. font_of parts bytes.now index ≡ Ok f.value.input.face) }
+        ensures refused { IfErr result (λ e. e ≢ RunFault.OutOfMemory → IsFaultOfFile parts bytes.now index e) }
+    {
+        let tables = Tables::library(alloc)?;
+        let input = Input::read_file(alloc, tables, bytes, index, parts)?;
         let made = Font::new(alloc, input)?;
         Ok(made)
     }

@@ -1,12 +1,15 @@
 //! What fonts are made of: tables, which several fonts may share, and what was read of a font, which its handles share.
 ghost use Rattle.std.specs.Prelude.{◌≡◌, ◌≢◌, IfErr, IfOk, Ok, Err};
+ghost use Rattle.shell_fonts.specs.Fonts.{AreLibraryTables, font_of};
 ghost use Rattle.shell_readers.specs.Input.{font_in};
 ghost use Rattle.shell_readers.specs.Tables.{AreLawfulTables, tables_value};
 
 use buffer_tags::language_table::LanguageTable;
+use font_file::FontParts;
 use layout_face::Face;
 use script_categories::SyllableTable;
 use shape_pipeline::hb_shape_data_t;
+use shell_fonts::{library_tables, read_font_of};
 use shell_readers::fault::RunFault;
 use shell_readers::input::read_font;
 use shell_readers::tables::{TextTables, read_lawful_tables};
@@ -36,6 +39,16 @@ impl Tables {
         ensures refused { IfErr result (λ e. e ≢ RunFault.OutOfMemory → AreLawfulTables bytes.now (Err e)) }
     {
         let tables = read_lawful_tables(alloc, bytes)?;
+        let tables = Arc::new(alloc, tables)?;
+        Ok(Tables { tables })
+    }
+
+    /// The tables that the library has.
+    pub fn library(alloc: Global) -> Result<Tables, RunFault>
+        ensures ok { IfOk result (λ t. AreLibraryTables (Ok (tables_value t))) }
+        ensures refused { IfErr result (λ e. e ≢ RunFault.OutOfMemory → AreLibraryTables (Err e)) }
+    {
+        let tables = library_tables(alloc)?;
         let tables = Arc::new(alloc, tables)?;
         Ok(Tables { tables })
     }
@@ -73,6 +86,23 @@ impl Input {
         ensures refused { IfErr result (λ e. e ≢ RunFault.OutOfMemory → font_in font.now ≡ Err e) }
     {
         let face = read_font(alloc, font)?;
+        let face = Arc::new(alloc, face)?;
+        Ok(Input { tables, face })
+    }
+
+    /// Reads parts of a font of a font file over tables.
+    pub fn read_file(
+        alloc: Global,
+        tables: Tables,
+        bytes: &[u8],
+        index: usize,
+        parts: FontParts,
+    ) -> Result<Input, RunFault>
+        ensures tables { IfOk result (λ i. i.tables ≡ tables) }
+        ensures ok { IfOk result (λ i. font_of parts bytes.now index ≡ Ok i.face) }
+        ensures refused { IfErr result (λ e. e ≢ RunFault.OutOfMemory → font_of parts bytes.now index ≡ Err e) }
+    {
+        let face = read_font_of(alloc, bytes, index, parts)?;
         let face = Arc::new(alloc, face)?;
         Ok(Input { tables, face })
     }

@@ -3,6 +3,7 @@
 #![tactic(auto)]
 
 pub mod font;
+pub mod formats;
 pub mod handle;
 pub mod input;
 pub mod numbers;

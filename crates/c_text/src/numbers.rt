@@ -1,12 +1,15 @@
 //! C's numbers of settings, of faults and of what else a call answers.
-ghost use Rattle.std.specs.Prelude.{◌≡◌, ◌<◌};
-ghost use Rattle.c_text.specs.Numbers.{direction_number, direction_numbered, fault_number, level_numbered, script_number, script_numbered};
+ghost use Rattle.std.specs.Prelude.{◌≡◌, ◌≢◌, ◌<◌};
+ghost use Rattle.c_text.specs.Numbers.{direction_number, direction_numbered, fault_number, font_fault_number, level_numbered, parts_without, script_number, script_numbered};
 
 use buffer_common::direction::Direction;
 use buffer_common::script::Script;
 use buffer_common::tag::Tag;
 use buffer_glyphs::cause::ShapeCause;
 use buffer_glyphs::level::BufferClusterLevel;
+use font_bytes::fault::TableFault;
+use font_bytes::font_fault::FontFault;
+use font_file::FontParts;
 use shell_json::fault::JsonFault;
 use shell_readers::fault::RunFault;
 
@@ -25,6 +28,9 @@ pub const NO_TABLES: u32 = 17;
 
 /// The status where glyphs don't fit the text whose slices are wanted.
 pub const NO_SLICES: u32 = 18;
+
+/// The status where a font was passed as tables, or tables as a font.
+pub const OTHER_FORMAT: u32 = 19;
 
 /// The direction of a number, `Invalid` for one that no direction has.
 pub fn direction_numbered(number: u32) -> Direction
@@ -85,6 +91,7 @@ pub fn level_numbered(number: u32) -> BufferClusterLevel
 pub fn fault_number(fault: RunFault) -> u32
     ensures number { result ≡ fault_number fault }
     ensures of_fault { 0 < result }
+    ensures of_reader { result ≢ 19 }
 {
     match fault {
         RunFault::OutOfMemory
@@ -102,10 +109,38 @@ pub fn fault_number(fault: RunFault) -> u32
         RunFault::Shape(ShapeCause::TooLong) => 12,
         RunFault::Shape(ShapeCause::StretchRange) => 13,
         RunFault::Shape(ShapeCause::UnknownSyllableKind) => 14,
+        RunFault::Font(fault) => font_fault_number(fault),
         RunFault::Words
         | RunFault::Read
         | RunFault::ReadLimit
         | RunFault::Line(_, _)
         | RunFault::Write => 15,
+    }
+}
+
+/// The number of a fault of a font file: 20 to 25 in the order of the causes, 1 for lack of memory.
+fn font_fault_number(fault: FontFault) -> u32
+    ensures number { result ≡ font_fault_number fault.cause }
+    ensures of_fault { 0 < result }
+    ensures of_reader { result ≢ 19 }
+{
+    match fault.cause {
+        TableFault::OutOfMemory => 1,
+        TableFault::Short(_) => 20,
+        TableFault::Kind(_) => 21,
+        TableFault::Order(_) => 22,
+        TableFault::Index => 23,
+        TableFault::Missing => 24,
+        TableFault::TooLarge => 25,
+    }
+}
+
+/// The parts of a font that are read without those of numbers: 1 for the boxes of glyphs, 2 for their names.
+pub fn parts_without(number: u32) -> FontParts
+    ensures { result ≡ parts_without number }
+{
+    FontParts {
+        extents: number & 1 == 0,
+        names: number & 2 == 0,
     }
 }

@@ -5,13 +5,17 @@ pub use Rattle.buffer_tags.specs as buffer_tags
 pub use Rattle.buffer_unicode.specs as buffer_unicode
 pub use Rattle.buffer_unicode_tables.specs as buffer_unicode_tables
 pub use Rattle.buffer_wrappers.specs as buffer_wrappers
+pub use Rattle.font_bytes.specs as font_bytes
+pub use Rattle.font_file.specs as font_file
 pub use Rattle.layout_face.specs as layout_face
 pub use Rattle.opentype_layout.specs as opentype_layout
 pub use Rattle.script_categories.specs as script_categories
 pub use Rattle.script_shapers.specs as script_shapers
 pub use Rattle.shape_pipeline.specs as shape_pipeline
 pub use Rattle.shaping_buffer.specs as shaping_buffer
+pub use Rattle.shell_default_tables.specs as shell_default_tables
 pub use Rattle.shell_face_json.specs as shell_face_json
+pub use Rattle.shell_fonts.specs as shell_fonts
 pub use Rattle.shell_json.specs as shell_json
 pub use Rattle.shell_readers.specs as shell_readers
 pub use Rattle.shell_tables_json.specs as shell_tables_json

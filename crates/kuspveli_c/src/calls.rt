@@ -1,30 +1,61 @@
 //! The calls that make and end tables and fonts, and shape texts, as `include/kuspveli.h` declares them.
 //!
 //! The calls for tables and for a font have one form, since their handles are two types.
-ghost use Rattle.std.specs.Prelude.{◌≡◌, ◌≢◌, Err, IfNone, IfSome, None, Some, length, map};
+ghost use Rattle.std.specs.Prelude.{◌≡◌, ◌≢◌, ◌↔◌, Err, IfNone, IfSome, IsTrue, None, Some, length, map};
 ghost use Rattle.buffer_core.specs.Sides.{all_glyphs, empty_buffer};
 ghost use Rattle.c_text.specs.Written.{info_of, position_of, with_front};
+ghost use Rattle.c_text.specs.Formats.{are_swapped, is_font, is_tables};
+ghost use Rattle.c_text.specs.Numbers.{count_of, parts_without};
+ghost use Rattle.font_file.specs.Count.{font_count};
+ghost use Rattle.shell_fonts.specs.Fonts.{AreLibraryTables, font_of};
 ghost use Rattle.shell_readers.specs.Input.{IsInput, font_in};
 ghost use Rattle.shell_readers.specs.Tables.{AreLawfulTables};
-ghost use Rattle.c_text.specs.Fonts.{AreGlyphsOf, HasRead, HasReadOver, HasReadTables, HasSegmentOf, IsFaultOf, IsNumberOf, glyphs_of, input_of, new_font, segment_in};
+ghost use Rattle.c_text.specs.Fonts.{AreGlyphsOf, HasLibraryTables, HasRead, HasReadFile, HasReadFileOver, HasReadOver, HasReadTables, HasSegmentOf, IsFaultOf, IsFaultOfFile, IsNumberOf, glyphs_of, input_of, new_font, segment_in};
 
 use c_text::font::Font;
+use c_text::formats::{are_swapped, is_font, is_tables};
 use c_text::handle::{Handle, TablesHandle};
 use c_text::input::Tables;
-use c_text::numbers::{NO_FONT, NO_TABLES, OK, OUT_OF_MEMORY, fault_number};
+use c_text::numbers::{
+    NO_FONT, NO_TABLES, OK, OTHER_FORMAT, OUT_OF_MEMORY, fault_number, parts_without,
+};
 use c_text::types::{kus_glyph_info_t, kus_glyph_position_t, kus_text_t};
+use font_file::font_count;
 use std::alloc::Global;
 
-/// Reads tables, which must be lawful, and keeps them; tables that were there are let go. On a fault the handle stays as it
-/// was.
-#[tactic(auto, using(crate::proofs::Results::number_of_fault, crate::proofs::Results::tables_were_read))]
+/// Reads tables, which must be lawful, and keeps them; tables that were there are let go. JSON that says that it is a font
+/// is refused before it is read. On a fault the handle stays as it was.
+#[tactic(auto, using(crate::proofs::Results::number_of_fault, crate::proofs::Results::tables_were_read, crate::proofs::Results::other_format, crate::proofs::Results::own_format))]
 #[unsafe(no_mangle)]
 pub extern "C" fn kus_tables_create(alloc: Global, tables: &mut TablesHandle, json: &[u8]) -> u32
     ensures read { result ≡ 0 → HasReadTables json.now tables.new.value }
-    ensures refused { result ≢ 0 → result ≢ 1 → IsNumberOf (λ e. AreLawfulTables json.now (Err e)) result }
+    ensures refused { result ≢ 0 → result ≢ 1 → result ≢ 19 → IsNumberOf (λ e. AreLawfulTables json.now (Err e)) result }
+    ensures other_format { (result ≡ 19) ↔ IsTrue (is_font json.now) }
     ensures kept { result ≢ 0 → tables.new.value ≡ tables.old.value }
 {
+    if is_font(json) {
+        return OTHER_FORMAT;
+    }
     let read = match Tables::read(alloc, json) {
+        Ok(read) => read,
+        Err(fault) => return fault_number(fault),
+    };
+    let Ok(read) = Box::new(alloc, read) else {
+        return OUT_OF_MEMORY;
+    };
+    tables.put(alloc, read);
+    OK
+}
+
+/// Makes the tables that are inside the library; tables that were there are let go. On a fault the handle stays as it was.
+#[tactic(auto, using(crate::proofs::Results::number_of_fault, crate::proofs::Results::library_tables_were_read))]
+#[unsafe(no_mangle)]
+pub extern "C" fn kus_tables_create_default(alloc: Global, tables: &mut TablesHandle) -> u32
+    ensures read { result ≡ 0 → HasLibraryTables tables.new.value }
+    ensures refused { result ≢ 0 → result ≢ 1 → IsNumberOf (λ e. AreLibraryTables (Err e)) result }
+    ensures kept { result ≢ 0 → tables.new.value ≡ tables.old.value }
+{
+    let read = match Tables::library(alloc) {
         Ok(read) => read,
         Err(fault) => return fault_number(fault),
     };
@@ -72,8 +103,9 @@ pub extern "C" fn kus_tables_destroy(alloc: Global, tables: &mut TablesHandle)
     drop(last);
 }
 
-/// Reads a font over tables, which it shares; a font that was there is dropped. On a fault the handles stay as they were.
-#[tactic(auto, using(crate::proofs::Results::number_of_fault, crate::proofs::Results::font_was_read_over))]
+/// Reads a font over tables, which it shares; a font that was there is dropped. JSON that says that it is tables is refused
+/// before it is read. On a fault the handles stay as they were.
+#[tactic(auto, using(crate::proofs::Results::number_of_fault, crate::proofs::Results::font_was_read_over, crate::proofs::Results::other_format, crate::proofs::Results::own_format))]
 #[unsafe(no_mangle)]
 pub extern "C" fn kus_font_create_with_tables(
     alloc: Global,
@@ -83,14 +115,19 @@ pub extern "C" fn kus_font_create_with_tables(
 ) -> u32
     ensures no_tables { IfNone tables.old.value (result ≡ 17) }
     ensures read { result ≡ 0 → HasReadOver tables.old.value json.now font.new.value }
-    ensures refused { result ≢ 0 → result ≢ 1
+    ensures refused { result ≢ 0 → result ≢ 1 → result ≢ 19
         → IfSome tables.old.value (λ _. IsNumberOf (λ e. font_in json.now ≡ Err e) result) }
+    ensures other_format { IfSome tables.old.value (λ _. (result ≡ 19) ↔ IsTrue (is_tables json.now)) }
     ensures same { tables.new.value ≡ tables.old.value }
     ensures kept { result ≢ 0 → font.new.value ≡ font.old.value }
 {
     let Some(shared) = tables.take(alloc) else {
         return NO_TABLES;
     };
+    if is_tables(json) {
+        tables.put(alloc, shared);
+        return OTHER_FORMAT;
+    }
     let read = Font::read_over(alloc, &shared, json);
     tables.put(alloc, shared);
     let read = match read {
@@ -101,8 +138,9 @@ pub extern "C" fn kus_font_create_with_tables(
     OK
 }
 
-/// Reads tables and a font, and keeps them; a font that was there is dropped. On a fault the handle stays as it was.
-#[tactic(auto, using(crate::proofs::Results::number_of_fault))]
+/// Reads tables and a font, and keeps them; a font that was there is dropped. JSON that says that it is the other of both is
+/// refused before it is read. On a fault the handle stays as it was.
+#[tactic(auto, using(crate::proofs::Results::number_of_fault, crate::proofs::Results::other_format, crate::proofs::Results::own_format))]
 #[unsafe(no_mangle)]
 pub extern "C" fn kus_font_create(
     alloc: Global,
@@ -111,15 +149,87 @@ pub extern "C" fn kus_font_create(
     json: &[u8],
 ) -> u32
     ensures read { result ≡ 0 → HasRead tables.now json.now font.new.value }
-    ensures refused { result ≢ 0 → result ≢ 1 → IsNumberOf (λ e. IsInput tables.now json.now (Err e)) result }
+    ensures refused { result ≢ 0 → result ≢ 1 → result ≢ 19
+        → IsNumberOf (λ e. IsInput tables.now json.now (Err e)) result }
+    ensures other_format { (result ≡ 19) ↔ IsTrue (are_swapped tables.now json.now) }
     ensures kept { result ≢ 0 → font.new.value ≡ font.old.value }
 {
+    if are_swapped(tables, json) {
+        return OTHER_FORMAT;
+    }
     let read = match Font::read(alloc, tables, json) {
         Ok(read) => read,
         Err(fault) => return fault_number(fault),
     };
     font.put(alloc, read);
     OK
+}
+
+/// Reads the font with an index of a font file over tables, which it shares; a font that was there is dropped. `flags` says
+/// what is not read: 1 the boxes of glyphs, 2 their names. On a fault the handles stay as they were.
+#[tactic(auto, using(crate::proofs::Results::number_of_fault, crate::proofs::Results::file_was_read_over))]
+#[unsafe(no_mangle)]
+pub extern "C" fn kus_font_create_from_bytes_over(
+    alloc: Global,
+    font: &mut Handle,
+    tables: &mut TablesHandle,
+    bytes: &[u8],
+    index: usize,
+    flags: u32,
+) -> u32
+    ensures no_tables { IfNone tables.old.value (result ≡ 17) }
+    ensures read { result ≡ 0 → HasReadFileOver tables.old.value (parts_without flags) bytes.now index font.new.value }
+    ensures refused { result ≢ 0 → result ≢ 1
+        → IfSome tables.old.value (λ _. IsNumberOf (λ e. font_of (parts_without flags) bytes.now index ≡ Err e) result) }
+    ensures same { tables.new.value ≡ tables.old.value }
+    ensures kept { result ≢ 0 → font.new.value ≡ font.old.value }
+{
+    let Some(shared) = tables.take(alloc) else {
+        return NO_TABLES;
+    };
+    let read = Font::read_file_over(alloc, &shared, bytes, index, parts_without(flags));
+    tables.put(alloc, shared);
+    let read = match read {
+        Ok(read) => read,
+        Err(fault) => return fault_number(fault),
+    };
+    font.put(alloc, read);
+    OK
+}
+
+/// Reads the font with an index of a font file over tables of its own, those that are inside the library; a font that was
+/// there is dropped. `flags` says what is not read: 1 the boxes of glyphs, 2 their names. On a fault the handle stays as it
+/// was.
+#[tactic(auto, using(crate::proofs::Results::number_of_fault, crate::proofs::Results::file_was_read))]
+#[unsafe(no_mangle)]
+pub extern "C" fn kus_font_create_from_bytes_alone(
+    alloc: Global,
+    font: &mut Handle,
+    bytes: &[u8],
+    index: usize,
+    flags: u32,
+) -> u32
+    ensures read { result ≡ 0 → HasReadFile (parts_without flags) bytes.now index font.new.value }
+    ensures refused { result ≢ 0 → result ≢ 1 → IsNumberOf (IsFaultOfFile (parts_without flags) bytes.now index) result }
+    ensures kept { result ≢ 0 → font.new.value ≡ font.old.value }
+{
+    let read = match Font::read_file(alloc, bytes, index, parts_without(flags)) {
+        Ok(read) => read,
+        Err(fault) => return fault_number(fault),
+    };
+    font.put(alloc, read);
+    OK
+}
+
+/// How many fonts a file has: as many as a collection says, 1 in any other font file; 0 where the bytes are no font file.
+#[unsafe(no_mangle)]
+pub extern "C" fn kus_count_fonts(bytes: &[u8]) -> usize
+    ensures { result ≡ count_of (font_count bytes.now) }
+{
+    match font_count(bytes) {
+        Ok(count) => count,
+        Err(_) => 0,
+    }
 }
 
 /// Another handle of a font, which shares what was read; a font that the other handle had is dropped. On a fault both

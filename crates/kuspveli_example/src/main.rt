@@ -1,5 +1,5 @@
-//! Shapes three texts over the crate `kuspveli` alone, and prints where carets may stand in them: tables and font are read
-//! once, and a cache keeps the plans.
+//! Shapes three texts over the crate `kuspveli` alone, and prints where carets may stand in them: a font file is read once,
+//! and a cache keeps the plans.
 #![tactic(auto)]
 
 ghost use Rattle.kuspveli.specs.buffer_tags.LanguageTable.{tags_of_table};
@@ -7,8 +7,9 @@ ghost use Rattle.kuspveli.specs.plan_cache.Cache.{IsCacheOf};
 
 use caret_model::{Caret, CaretModel};
 use kuspveli::{
-    Direction, Face, GlyphBuffer, LanguageTable, PlanCache, RunFault, RunInput, SerializeFlags,
-    ShapeCause, SyllableTable, TextTables, UnicodeBuffer, hb_shape_data_t, read_input,
+    Direction, Face, FontParts, GlyphBuffer, LanguageTable, PlanCache, RunFault, RunInput,
+    SerializeFlags, ShapeCause, SyllableTable, TextTables, UnicodeBuffer, hb_shape_data_t,
+    read_font_input,
 };
 use std::alloc::{AllocError, Global};
 use std::fs;
@@ -20,11 +21,10 @@ fn main(rt: HostRuntime) -> Result<(), RunFault> {
     shape_texts(&rt, &input.face, &input.tables)
 }
 
-/// Reads tables and font from their files, into a box, since they are large.
+/// Reads the font from its file, over the tables of Unicode 15.0, into a box, since they are large.
 fn read(rt: &HostRuntime) -> Result<Box<RunInput>, RunFault> {
-    let tables = fs::read(rt, "tables.json").map_err(|_| RunFault::Read)?;
-    let font = fs::read(rt, "font.json").map_err(|_| RunFault::Read)?;
-    let input = read_input(rt.alloc(), &tables, &font)?;
+    let font = fs::read(rt, "font.ttf").map_err(|_| RunFault::Read)?;
+    let input = read_font_input(rt.alloc(), &font, 0, FontParts::all())?;
     Ok(Box::new(rt.alloc(), input)?)
 }
 

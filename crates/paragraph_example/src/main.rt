@@ -1,13 +1,13 @@
-//! paragraph_example TABLES FONT TEXT WIDTH: sets a paragraph in lines of a width in font units, over the crates
-//! `kuspveli` and `line_pieces` alone. The paragraph is shaped once; a line that may not have its glyphs is shaped
+//! paragraph_example FONT TEXT WIDTH: sets a paragraph in lines of a width in font units, over the crates `kuspveli` and
+//! `line_pieces` alone; FONT is a font file. The paragraph is shaped once; a line that may not have its glyphs is shaped
 //! again. All lines are printed at once, at the end. Where something is wrong none is: a line on standard error says
 //! what, and of which word.
 #![tactic(auto)]
 
 use kuspveli::{
-    BufferFlags, Direction, Face, GlyphBuffer, GlyphInfo, GlyphPosition, LanguageTable, RunFault,
-    Script, ShapeCause, SyllableTable, TextTables, UnicodeBuffer, hb_shape_data_t, read_font,
-    read_lawful_tables, shape,
+    BufferFlags, Direction, Face, FontFault, FontParts, GlyphBuffer, GlyphInfo, GlyphPosition,
+    LanguageTable, RunFault, Script, ShapeCause, SyllableTable, TextTables, UnicodeBuffer,
+    default_tables, hb_shape_data_t, read_font, shape,
 };
 use line_pieces::{Line, LineFault, cut_lines};
 use std::alloc::{AllocError, Global};
@@ -18,7 +18,7 @@ use thiserror::Error;
 /// Why no lines are printed.
 #[derive(Clone, Copy, Debug, Error)]
 enum Fault<'a> {
-    #[error("expected TABLES FONT TEXT WIDTH")]
+    #[error("expected FONT TEXT WIDTH")]
     Words,
     /// The word that is wrong, or that names the file.
     #[error("{0:?}: {1}")]
@@ -35,7 +35,9 @@ enum WordFault {
     #[error(transparent)]
     Read(#[from] io::Error),
     #[error(transparent)]
-    Format(#[from] RunFault),
+    Font(#[from] FontFault),
+    #[error(transparent)]
+    Tables(#[from] RunFault),
     #[error(transparent)]
     Shape(#[from] ShapeCause),
     #[error(transparent)]
@@ -93,51 +95,33 @@ fn print_lines<'a>(rt: &HostRuntime, words: &'a [String]) -> Result<(), Fault<'a
 
 /// Reads the files, and sets the paragraph in lines.
 fn set_files<'a>(rt: &HostRuntime, words: &'a [String]) -> Result<String, Fault<'a>> {
-    let [_, tables, font, text, width] = words else {
+    let [_, font, text, width] = words else {
         return Err(Fault::Words);
     };
     let units = width
         .parse()
         .map_err(|_| Fault::Word(width, WordFault::Width))?;
-    let tables = read_tables(rt, tables).map_err(|fault| Fault::Word(tables, fault))?;
-    set_by_tables(rt, &tables, font, text, units)
-}
-
-/// Reads a font and a text, and sets the text in lines.
-fn set_by_tables<'a>(
-    rt: &HostRuntime,
-    tables: &TextTables,
-    font: &'a str,
-    text: &'a str,
-    width: i64,
-) -> Result<String, Fault<'a>> {
     let face = read_face(rt, font).map_err(|fault| Fault::Word(font, fault))?;
-    set_file(rt, tables, &face, text, width).map_err(|fault| Fault::Word(text, fault))
+    set_file(rt, &face, text, units).map_err(|fault| Fault::Word(text, fault))
 }
 
-/// Reads tables into a box, since they are large.
-fn read_tables(rt: &HostRuntime, name: &str) -> Result<Box<TextTables>, WordFault> {
-    let bytes = fs::read(rt, name)?;
-    let tables = read_lawful_tables(rt.alloc(), &bytes)?;
-    Ok(Box::new(rt.alloc(), tables)?)
-}
-
-/// Reads a font into a box, since it is large.
+/// Reads the first font of a file into a box, since it is large.
 fn read_face(rt: &HostRuntime, name: &str) -> Result<Box<Face>, WordFault> {
     let bytes = fs::read(rt, name)?;
-    let face = read_font(rt.alloc(), &bytes)?;
+    let face = read_font(rt.alloc(), &bytes, 0, FontParts::all())?;
     Ok(Box::new(rt.alloc(), face)?)
 }
 
+/// The tables of Unicode 15.0 in a box, since they are large.
+fn unicode_tables(alloc: Global) -> Result<Box<TextTables>, WordFault> {
+    let tables = default_tables(alloc)?;
+    Ok(Box::new(alloc, tables)?)
+}
+
 /// Reads the text of a paragraph, and sets it in lines.
-fn set_file(
-    rt: &HostRuntime,
-    tables: &TextTables,
-    face: &Face,
-    name: &str,
-    width: i64,
-) -> Result<String, WordFault> {
+fn set_file(rt: &HostRuntime, face: &Face, name: &str, width: i64) -> Result<String, WordFault> {
     let text = fs::read_to_string(rt, name)?;
+    let tables = unicode_tables(rt.alloc())?;
     let setup = Setup {
         alloc: rt.alloc(),
         face,

@@ -32,34 +32,61 @@ read_file (const char *name)
   return read;
 }
 
+/* In the place of a file of tables: those that are inside the library. */
+#define OWN_TABLES "-"
+
+static inline int
+are_own (const char *tables)
+{
+  return !strcmp (tables, OWN_TABLES);
+}
+
 static inline kus_tables_t
 open_tables (const char *name)
 {
   kus_tables_t tables = KUS_TABLES_INIT;
-  bytes_t json = read_file (name);
-  kus_status_t status = kus_tables_create (&tables, json.bytes, json.length);
+  kus_status_t status;
+  if (are_own (name))
+    status = kus_tables_create_default (&tables);
+  else {
+    bytes_t json = read_file (name);
+    status = kus_tables_create (&tables, json.bytes, json.length);
+    free (json.bytes);
+  }
   if (status != KUS_OK) fail (name, kus_status_name (status));
-  free (json.bytes);
   return tables;
 }
 
+/* A font file has no brace as its first byte. */
+static inline int
+is_json (bytes_t file)
+{
+  return file.length && file.bytes[0] == '{';
+}
+
+/* A font of JSON over tables; a font file over tables, or where these are NULL over those that are inside the library. */
 static inline kus_font_t
 open_font_over (kus_tables_t *tables, const char *name)
 {
   kus_font_t font = KUS_FONT_INIT;
-  bytes_t json = read_file (name);
-  kus_status_t status = kus_font_create_with_tables (&font, tables, json.bytes, json.length);
+  bytes_t file = read_file (name);
+  kus_status_t status = is_json (file)
+                            ? kus_font_create_with_tables (&font, tables, file.bytes, file.length)
+                            : kus_font_create_from_bytes (&font, tables, file.bytes, file.length, 0, KUS_FONT_DEFAULT);
   if (status != KUS_OK) fail (name, kus_status_name (status));
-  free (json.bytes);
+  /* A font keeps nothing of its bytes. */
+  memset (file.bytes, 0xA5, file.length);
+  free (file.bytes);
   return font;
 }
 
 /* A font over tables, which are let go as soon as the font has them. */
 static inline kus_font_t
-open_font (const char *tables, const char *json)
+open_font (const char *tables, const char *name)
 {
+  if (are_own (tables)) return open_font_over (NULL, name);
   kus_tables_t shared = open_tables (tables);
-  kus_font_t font = open_font_over (&shared, json);
+  kus_font_t font = open_font_over (&shared, name);
   kus_tables_destroy (&shared);
   return font;
 }

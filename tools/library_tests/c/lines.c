@@ -1,4 +1,5 @@
-/* lines TABLES FONT ROOM < cases: a line for each case, or its fault. ROOM is the room that the first call is given. */
+/* lines TABLES FONT ROOM < cases: a line for each case, or its fault. FONT is JSON or a font file, and TABLES is JSON, or -
+ * for those that are inside the library. ROOM is the room that the first call is given. */
 #include "common.h"
 
 #define MOST 4096

@@ -1,6 +1,7 @@
 /* many TABLES FONT CALLS WORD..: calls on four threads, each with a handle of its own over one font, give the glyphs
- * that the first call gave; memory is counted, and none is left. The linker passes the library's calls of malloc and
- * its kin through the counters here (--wrap). */
+ * that the first call gave; memory is counted, and none is left; each allocation of a call is refused in turn, and of a
+ * font file each allocation of the call that reads it. The linker passes the library's calls of malloc and its kin
+ * through the counters here (--wrap). */
 #include <pthread.h>
 #include <stdatomic.h>
 #include "common.h"
@@ -121,6 +122,41 @@ refuse_each (kus_font_t *font)
   }
 }
 
+/* Each allocation of the call that reads a font file is refused in turn: the call says so and the handle has the font
+ * that it had, or none; or it does without. */
+static int
+refuse_reading (const char *name)
+{
+  static result_t made;
+  bytes_t file = read_file (name);
+  kus_font_t kept = KUS_FONT_INIT;
+  if (kus_font_create_from_bytes (&kept, NULL, file.bytes, file.length, 0, KUS_FONT_DEFAULT) != KUS_OK) fail ("not read", name);
+  long steady = live;
+  int at = 0;
+  for (int reached = 1; reached;) {
+    kus_font_t font = KUS_FONT_INIT;
+    kus_font_t *into = ++at % 2 ? &font : &kept;
+    refused = at;
+    kus_status_t status = kus_font_create_from_bytes (into, NULL, file.bytes, file.length, 0, KUS_FONT_DEFAULT);
+    reached = !refused;
+    refused = 0;
+    if (status != KUS_OK && (status != KUS_OUT_OF_MEMORY || !reached)) fail ("refused memory", kus_status_name (status));
+    if (status != KUS_OK && font.live) fail ("refused memory", "and a font is there");
+    if (status == KUS_OK && (shape (into, words[0], &made) != KUS_OK || !same (&made, &first[0]))) fail ("refused memory", "and another result");
+    kus_font_destroy (&font);
+    if (into == &kept && status == KUS_OK) {
+      /* What it keeps of the text is not counted. */
+      kus_font_destroy (&kept);
+      if (kus_font_create_from_bytes (&kept, NULL, file.bytes, file.length, 0, KUS_FONT_DEFAULT) != KUS_OK) fail ("not read", name);
+    }
+    if (live != steady) fail ("refused reading leaves memory", name);
+  }
+  if (shape (&kept, words[0], &made) != KUS_OK || !same (&made, &first[0])) fail ("refused reading", "and then another result");
+  kus_font_destroy (&kept);
+  free (file.bytes);
+  return at - 1;
+}
+
 int
 main (int count, char **arguments)
 {
@@ -144,6 +180,8 @@ main (int count, char **arguments)
   if (live != steady) fail ("refused calls leave memory", "");
   kus_font_destroy (&font);
   if (live != before) fail ("fonts leave memory", "");
+  if (are_own (arguments[1])) refusals += refuse_reading (arguments[2]);
+  if (live != before) fail ("refused reading leaves memory", "");
   printf ("%ld calls on %d threads, %d allocations refused\n", calls / THREADS * THREADS, THREADS, refusals);
   return 0;
 }

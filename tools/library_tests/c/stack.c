@@ -1,4 +1,4 @@
-/* stack TABLES FONT TEXT: the calls run on threads whose whole stacks are as large as the header asks for what is left, with a
+/* stack TABLES FONT TEXT FILE: the calls run on threads whose whole stacks are as large as the header asks for what is left, with a
  * page below them that no one may write. Prints the statuses of the calls, and the most that each kind of call took. */
 #define _GNU_SOURCE
 #include <pthread.h>
@@ -12,9 +12,9 @@
 #define MOST 65536
 #define PATTERN 0xA5
 
-static bytes_t tables, json, own;
-static kus_tables_t shared = KUS_TABLES_INIT;
-static kus_font_t font = KUS_FONT_INIT, whole = KUS_FONT_INIT;
+static bytes_t tables, json, own, file;
+static kus_tables_t shared = KUS_TABLES_INIT, inside = KUS_TABLES_INIT;
+static kus_font_t font = KUS_FONT_INIT, whole = KUS_FONT_INIT, over = KUS_FONT_INIT, alone = KUS_FONT_INIT;
 static kus_status_t status;
 static kus_glyph_info_t infos[MOST];
 static kus_glyph_position_t positions[MOST];
@@ -38,6 +38,27 @@ static void *
 create_both (void *none)
 {
   status = kus_font_create (&whole, tables.bytes, tables.length, json.bytes, json.length);
+  return none;
+}
+
+static void *
+create_default (void *none)
+{
+  status = kus_tables_create_default (&inside);
+  return none;
+}
+
+static void *
+create_over (void *none)
+{
+  status = kus_font_create_from_bytes (&over, &inside, file.bytes, file.length, 0, KUS_FONT_DEFAULT);
+  return none;
+}
+
+static void *
+create_alone (void *none)
+{
+  status = kus_font_create_from_bytes (&alone, NULL, file.bytes, file.length, 0, KUS_FONT_DEFAULT);
   return none;
 }
 
@@ -95,18 +116,22 @@ greater (size_t a, size_t b)
 int
 main (int count, char **words)
 {
-  if (count != 4) fail ("stack", "TABLES FONT TEXT");
+  if (count != 5) fail ("stack", "TABLES FONT TEXT FILE");
   tables = read_file (words[1]);
   json = read_file (words[2]);
   own = read_file (words[3]);
-  size_t reading = run (create_tables, READING);
-  reading = greater (reading, run (create_font, READING));
-  reading = greater (reading, run (create_both, READING));
+  file = read_file (words[4]);
+  void *(*readers[]) (void *) = { create_tables, create_font, create_both, create_default, create_over, create_alone };
+  size_t reading = 0;
+  for (size_t k = 0; k < sizeof readers / sizeof *readers; k++) reading = greater (reading, run (readers[k], READING));
   size_t other = run (shape, OTHER);
   other = greater (other, run (slice, OTHER));
   printf ("%zu %zu\n", reading, other);
   kus_font_destroy (&font);
   kus_font_destroy (&whole);
+  kus_font_destroy (&over);
+  kus_font_destroy (&alone);
   kus_tables_destroy (&shared);
+  kus_tables_destroy (&inside);
   return 0;
 }

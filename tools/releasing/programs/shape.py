@@ -1,9 +1,8 @@
-"""shape.py TABLES FONT TEXT: the line of a text, as hb-shape --no-glyph-names prints it."""
+"""shape.py FONT TEXT: the line of a text, as hb-shape --no-glyph-names prints it."""
 
 import sys
-from pathlib import Path
 
-from kuspveli import Font, Glyph, Tables
+from kuspveli import Font, Glyph
 
 
 def shown(glyph: Glyph) -> str:
@@ -11,5 +10,4 @@ def shown(glyph: Glyph) -> str:
     return f"{glyph.number}={glyph.cluster}{offsets}+{glyph.x_advance}"
 
 
-tables, font = (Path(name).read_bytes() for name in sys.argv[1:3])
-print("|".join(map(shown, Font(Tables(tables), font).shape(sys.argv[3]))))
+print("|".join(map(shown, Font.open(sys.argv[1]).shape(sys.argv[2]))))

@@ -1,6 +1,6 @@
-//! shape TABLES FONT TEXT: the line of a text, as hb-shape --no-glyph-names prints it.
+//! shape FONT TEXT: the line of a text, as hb-shape --no-glyph-names prints it.
 
-use kuspveli::{Font, GlyphInfo, GlyphPosition, Tables, Text};
+use kuspveli::{Font, GlyphInfo, GlyphPosition, Text};
 use std::{env, error::Error, fs};
 
 fn shown((info, at): (&GlyphInfo, &GlyphPosition)) -> String {
@@ -13,9 +13,8 @@ fn shown((info, at): (&GlyphInfo, &GlyphPosition)) -> String {
 
 fn main() -> Result<(), Box<dyn Error>> {
     let words: Vec<String> = env::args().collect();
-    let mut tables = Tables::new(&fs::read(&words[1])?)?;
-    let mut font = Font::with_tables(&mut tables, &fs::read(&words[2])?)?;
-    let glyphs = font.shape(&Text::new(&words[3]))?;
+    let mut font = Font::from_slice(&fs::read(&words[1])?, 0)?;
+    let glyphs = font.shape(&Text::new(&words[2]))?;
     let line: Vec<String> = glyphs.infos.iter().zip(glyphs.positions).map(shown).collect();
     println!("{}", line.join("|"));
     Ok(())
