@@ -1,0 +1,1 @@
+"""Programs that use libharfbuzz, run as they are and shaped by Kuspveli."""
