@@ -23,7 +23,7 @@ from fontjson.cli import read_font
 from fuzzing.in_process import run_stream
 from fuzzing.streams import font_line, tables_line, text_line, words_line
 from shaping.cache import cache_folder
-from shaping.cli import tables_file
+from shaping.converting import tables_file
 
 NAME = "breaks"
 ABOUT = """Shapes lines in each font of some folders with PRODUCE_SAFE_BREAKS, at both monotone levels, cuts each at every

@@ -29,7 +29,7 @@ from common.notes import Notes
 from common.parsing import Words
 from fontjson.cli import read_font
 from shaping.cache import cache_folder, cached, fingerprint, font_name
-from shaping.cli import FONT_READ, tables_file
+from shaping.converting import FONT_READ, tables_file
 
 NAME = "real"
 # Programs that a run needs, each with its package.

@@ -23,7 +23,7 @@ from common.notes import Progress
 from common.parsing import Words
 from common.printing import clean
 from shaping.cache import cache_folder
-from shaping.cli import tables_file
+from shaping.converting import tables_file
 
 NAME = "fonts"
 LIBRARY = "KUSPVELI_LIBRARY"
@@ -116,7 +116,8 @@ def fonts_of(folders: list[Path]) -> list[Path]:
     met: dict[Path, Path] = {}
     for folder in folders:
         for path in sorted(folder.rglob("*")) if folder.is_dir() else [folder]:
-            if path.suffix.lower() in ENDINGS:
+            # A link may lead to a file of a package that isn't there.
+            if path.suffix.lower() in ENDINGS and path.is_file():
                 met.setdefault(path.resolve(), path)
     families: dict[tuple[Path, str], list[Path]] = {}
     for path in sorted(met.values(), key=lambda path: hashlib.sha256(os.fsencode(path)).digest()):

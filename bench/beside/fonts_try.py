@@ -21,6 +21,7 @@ from shaping.cache import cached, fingerprint, font_name
 from shaping.context import shape_in_context
 from shaping.options import Given
 from shaping.program import Line, run_all
+from shaping.sources import Converted
 from shaping.texts import Text, script_of
 
 THEIRS = "hb-shape"
@@ -109,7 +110,7 @@ def lines_by(by: Trial, value: Path, texts: list[Text]) -> list[Line]:
     """The lines of texts by the program, or by the library in this process."""
     if by.program is None:
         return shape_in_context(by.tables, value, texts, Given(value, None), {})
-    return run_all(by.program, by.tables, value, texts, ["--no-glyph-names"])
+    return run_all(Converted(by.program, by.tables, value), texts, ["--no-glyph-names"])
 
 
 def lines_of(font: Path, texts: list[str]) -> list[str] | None:

@@ -21,7 +21,7 @@ from common.faults import FILES, ToolFault
 from common.files import faults_of, write_over
 from common.parsing import Words
 from shaping.cache import TOOLS, cache_folder
-from shaping.cli import font_value, tables_file
+from shaping.converting import font_value, tables_file
 
 # The seconds of a clock, and beside it those of the processors.
 Times = tuple[float, ...]

@@ -93,7 +93,7 @@ def read_font(
 
     progress = Progress(NAME)
     try:
-        with reading(path, is_limited):
+        with reading(path, is_limited, progress):
             source = open_font(path, index, notes, progress)
             with source.font:
                 if place is not None:

@@ -11,6 +11,7 @@ from fontjson.source import Source
 FIELDS = ("XPlacement", "YPlacement", "XAdvance", "YAdvance")
 DEVICES = ("XPlaDevice", "YPlaDevice", "XAdvDevice", "YAdvDevice")
 DELTA_FORMAT_VARIATION = 0x8000
+ANCHOR_FORMATS = (1, 2, 3)
 MARK_TYPES = {
     "MarkBasePos": ("MarkCoverage", "BaseCoverage", "MarkArray", "BaseArray", "BaseRecord", "BaseAnchor"),
     "MarkMarkPos": ("Mark1Coverage", "Mark2Coverage", "Mark1Array", "Mark2Array", "Mark2Record", "Mark2Anchor"),
@@ -36,7 +37,11 @@ def note_device(source: Source, device: Any) -> None:
 
 
 def anchor(source: Source, record: Any) -> Row | None:
+    """The two numbers of an anchor; one of an unknown format is none, as in HarfBuzz."""
     if record is None:
+        return None
+    if record.Format not in ANCHOR_FORMATS:
+        source.notes.left_out("GPOS: anchors of an unknown format")
         return None
     if record.Format == 2:
         source.notes.left_out("GPOS: contour points of anchors")

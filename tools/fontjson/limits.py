@@ -12,6 +12,7 @@ from concurrent.futures.process import BrokenProcessPool
 from typing import Any, Iterator
 
 from common.faults import DATA, ToolFault
+from common.notes import Progress
 from common.printing import naming
 
 # Bytes of the file, of what a WOFF or WOFF2 file unpacks to, and of all names of glyphs.
@@ -64,8 +65,9 @@ def refuse(what: str) -> Refused:
 
 
 @contextlib.contextmanager
-def reading(path: str, is_limited: bool = True) -> Iterator[None]:
-    """Reads a font within the limits of memory and time. Whatever is raised is told as a fault of the font."""
+def reading(path: str, is_limited: bool = True, progress: Progress | None = None) -> Iterator[None]:
+    """Reads a font within the limits of memory and time. Whatever is raised is told as a fault of the font, with what
+    was read then."""
     try:
         with naming(path), limited() if is_limited else contextlib.nullcontext():
             yield
@@ -78,7 +80,8 @@ def reading(path: str, is_limited: bool = True) -> Iterator[None]:
         raise ToolFault(DATA, f"{path}: {beyond(fault, is_limited)}{lifted}") from None
     except Exception as error:
         what = f"{type(error).__name__}: {error}"
-        raise ToolFault(DATA, f"{path}: the font is damaged: {what[:SHOWN]}") from error
+        where = f" in {progress.now}" if progress is not None and progress.now else ""
+        raise ToolFault(DATA, f"{path}: the font is damaged{where}: {what[:SHOWN]}") from error
 
 
 def beyond(fault: BaseException, is_limited: bool) -> str:

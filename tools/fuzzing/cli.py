@@ -37,7 +37,8 @@ to follow the format and is given to the program.
 
 With --in-process many cases run in one process: the program shape_trials reads fonts, settings and texts, shapes each
 text in several ways, and tests what the contracts promise of the answers. A line is printed for each case whose answer
-breaks a promise; how far it is, and how many cases it takes in a second, is told each minute. With --plant the program
+breaks a promise; how far it is, and how many cases it takes in a second, is told each minute. With --fonts it reads damaged font
+files, each of which has to end as a face or as a fault, and shapes twenty texts in each face. With --plant the program
 is compiled with a bug, and cases run until one is wrong."""
 EXAMPLES = """examples:
   tools/fuzz --seconds=3600 --jobs=2          for an hour, by two processes
@@ -45,6 +46,8 @@ EXAMPLES = """examples:
   tools/fuzz --seed=7 --case=4711             one of them again: its files and its answer
   tools/fuzz --in-process --cases=1000000     a million cases in one process after another
   tools/fuzz --in-process --seed=7 --case=12  one of them again
+  tools/fuzz --in-process --fonts --cases=1000000
+                                              a million damaged font files, read by one process
   tools/fuzz --laying --cases=1000            vendor and install in a thousand random trees
   tools/fuzz --plant=merge                    a bug in the sources, and the first case that finds it"""
 # So many cases run at once in each process: they wait for the system more than for a processor.
@@ -64,6 +67,8 @@ def parser() -> argparse.ArgumentParser:
     words.add_argument("--laying", action="store_true", help="random trees for vendor and install, instead of the program")
     words.add_argument("--traced", action="store_true", help="their runs, ended at calls of the system by strace")
     words.add_argument("--fonts", action="store_true", help="damaged fonts, converted by font_to_json for the program")
+    words.add_argument("--refuse", action="store_true", help="with both: fonts without damage, each allocation refused")
+    words.add_argument("--texts", type=int, default=20, metavar="N", help="texts in each damaged font that is read (20)")
     words.add_argument("--seconds", type=float, metavar="S", help="stop after S seconds")
     words.add_argument("--cases", type=int, metavar="N", help="stop after N cases (10,000 where nothing is given)")
     words.add_argument("--jobs", type=int, default=1, metavar="N", help="processes side by side (1)")
@@ -84,7 +89,7 @@ def main(given: list[str]) -> int:
     options = parser().parse_args(given)
     if options.plant is not None:
         return run_plant(options)
-    if options.laying or options.traced or options.fonts:
+    if options.laying or options.traced or (options.fonts and not options.in_process):
         from fuzzing import many
 
         return (many.run_laying if options.laying else many.run_traced if options.traced else many.run_fonts)(options)
@@ -99,6 +104,10 @@ def main(given: list[str]) -> int:
     tables.rows_by_character()
     tables.machines()
     if options.in_process:
+        if options.fonts:
+            from fuzzing import font_memory, font_trials  # they need fontTools
+
+            return (font_memory.run_refusals if options.refuse else font_trials.run_font_trials)(options)
         return run_in_process(options)
     return run_case(options) if options.case is not None else run_cases(options)
 
