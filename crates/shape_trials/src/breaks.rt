@@ -199,7 +199,7 @@ fn leave_budget(
 /// Whether numbers of ligatures don't run out, and for shapers that join letters the tables keep the premises.
 fn is_sure(trial: &Trial<'_>, plan: &ShapePlan) -> bool {
     !may_run_out_of_numbers(trial.font.has_ligatures, trial.text)
-        && (!may_join(plan.shaper) || keep_premises(&trial.font.input.tables.characters))
+        && (!may_join(plan.shaper) || keep_premises(&trial.tables.characters))
 }
 
 /// Whether contexts show the letters that texts have, and what syllables pass over continues a grapheme.

@@ -1,9 +1,11 @@
 //! Shapes texts of a stream on standard input, and tests of each answer what the contracts of `shape` promise.
 //!
 //! A line of the stream begins with its kind: `tables` and TABLES as JSON; `font`, the font's number of glyphs and FONT
-//! as JSON; `words` and words of the program hb_shape, whose settings the texts after it have; `text` and a text, which
-//! is a case; `premises` and any word, at which `kept` or `broken` is printed of the premises of safe breaks on the
-//! tables. A case whose answer breaks a promise is printed as `wrong`, its number in the stream and the promise; one
+//! as JSON; `font-bytes`, a number above those of the font's glyphs, the font's index in its file, and the file's bytes
+//! in base64 (RFC 4648, with padding), at which `face` is printed where they are read, else `fault` and the fault's name,
+//! table and offset; `words` and words of the program hb_shape, whose settings the texts after it have; `text` and a
+//! text, which is a case, and is passed over where no lawful tables, font and words stand; `premises` and any word, at
+//! which `kept` or `broken` is printed of the premises of safe breaks on the tables. A case whose answer breaks a promise is printed as `wrong`, its number in the stream and the promise; one
 //! whose pieces differ at a safe break where a premise is in doubt, as `unsure` and its number. The last line has the
 //! counts. The status is 1 where a case is wrong.
 #![tactic(auto)]
@@ -12,6 +14,7 @@ mod alike;
 mod alone;
 mod breaks;
 mod counts;
+mod font;
 mod joined;
 mod pieces;
 mod premises;
@@ -81,10 +84,20 @@ fn take_line(
         "premises" => print_premises(rt, session)?,
         "words" => session.take_words(rest)?,
         "font" => session.take_font(rest)?,
+        "font-bytes" => take_font_bytes(rt, session, rest)?,
         "tables" => session.take_tables(rest)?,
         _ => return Err(RunFault::Words),
     }
     Ok(counts)
+}
+
+/// Takes the bytes of a font file, and prints `face` where they are one, else the fault.
+fn take_font_bytes(rt: &HostRuntime, session: &mut Session, line: &str) -> Result<(), RunFault> {
+    let printed = match session.take_font_bytes(line)? {
+        None => println!(rt; "face"),
+        Some(fault) => println!(rt; "fault {fault}"),
+    };
+    printed.map_err(|_| RunFault::Write)
 }
 
 /// Prints whether the tables keep the premises of safe breaks.

@@ -2,34 +2,23 @@
 
 use crate::breaks::keep_premises;
 use crate::counts::Outcome;
+use crate::font::{Font, font_of_bytes, font_of_json};
 use crate::trial::Trial;
+use font_file::FontFault;
 use shell_readers::fault::RunFault;
-use shell_readers::input::{RunInput, read_input};
 use shell_readers::options::Options;
+use shell_readers::tables::{TextTables, read_lawful_tables};
 use shell_words::parse_options;
 use std::alloc::Global;
 use std::mem;
-
-/// What the JSON of a font with a lookup of ligatures has.
-const LIGATURE: &str = "\"ligature\"";
-
-/// A font with its tables.
-#[derive(Drop)]
-pub(crate) struct Font {
-    pub(crate) input: RunInput,
-    /// The font's number of glyphs.
-    pub(crate) count: u32,
-    /// Whether the font may make ligatures.
-    pub(crate) has_ligatures: bool,
-}
 
 /// What the texts of the stream are shaped by.
 #[derive(Drop)]
 pub(crate) struct Session {
     alloc: Global,
-    /// TABLES as JSON, which is read with each font.
-    tables: String,
-    /// The font over the tables, `None` where these are unlawful.
+    /// The tables, `None` where they are unlawful.
+    tables: Option<Box<TextTables>>,
+    /// The last font, `None` where its bytes are refused.
     font: Option<Box<Font>>,
     options: Option<Options>,
 }
@@ -38,7 +27,7 @@ impl Session {
     pub(crate) fn new(alloc: Global) -> Session {
         Session {
             alloc,
-            tables: String::new(alloc),
+            tables: None,
             font: None,
             options: None,
         }
@@ -46,16 +35,32 @@ impl Session {
 
     /// Takes TABLES for the fonts after it; texts before the next font are passed over.
     pub(crate) fn take_tables(&mut self, json: &str) -> Result<(), RunFault> {
-        self.tables = String::from_str(self.alloc, json)?;
+        let tables = read_tables(self.alloc, json)?;
+        drop(mem::replace(&mut self.tables, tables));
         drop(self.font.take());
         Ok(())
     }
 
     /// Takes a font for the texts after it: its number of glyphs, and FONT.
     pub(crate) fn take_font(&mut self, line: &str) -> Result<(), RunFault> {
-        let font = read_font(self.alloc, &self.tables, line)?;
-        drop(mem::replace(&mut self.font, font));
+        let font = font_of_json(self.alloc, line)?;
+        drop(self.font.replace(font));
         Ok(())
+    }
+
+    /// Takes the bytes of a font file for the texts after it. Where these are refused, it gives their fault, and texts are
+    /// passed over.
+    pub(crate) fn take_font_bytes(&mut self, line: &str) -> Result<Option<FontFault>, RunFault> {
+        match font_of_bytes(self.alloc, line)? {
+            Ok(font) => {
+                drop(self.font.replace(font));
+                Ok(None)
+            }
+            Err(fault) => {
+                drop(self.font.take());
+                Ok(Some(fault))
+            }
+        }
     }
 
     /// Takes words of hb_shape, whose settings the texts after them have.
@@ -64,45 +69,31 @@ impl Session {
         Ok(())
     }
 
-    /// Whether the tables stand with a font, and keep the premises of safe breaks.
+    /// Whether lawful tables stand, and keep the premises of safe breaks.
     pub(crate) fn keeps_premises(&self) -> bool {
-        match &self.font {
-            Some(font) => keep_premises(&font.input.tables.characters),
+        match &self.tables {
+            Some(tables) => keep_premises(&tables.characters),
             None => false,
         }
     }
 
-    /// Tests a text, where lawful tables with a font, and settings, stand before it.
+    /// Tests a text, where lawful tables, a font, and settings stand before it.
     pub(crate) fn test(&self, text: &str) -> Result<Outcome, RunFault> {
-        let (Some(font), Some(options)) = (&self.font, &self.options) else {
+        let (Some(tables), Some(font), Some(options)) = (&self.tables, &self.font, &self.options)
+        else {
             return Ok(Outcome::PassedOver);
         };
-        test(self.alloc, font, options, text)
+        test(self.alloc, tables, font, options, text)
     }
 }
 
-/// The font of a line; `None` where the tables are unlawful.
-fn read_font(alloc: Global, tables: &str, line: &str) -> Result<Option<Box<Font>>, RunFault> {
-    match read_lawful_font(alloc, tables, line) {
-        Ok(font) => Ok(Some(font)),
+/// The tables of JSON; `None` where they are unlawful.
+fn read_tables(alloc: Global, json: &str) -> Result<Option<Box<TextTables>>, RunFault> {
+    match read_lawful_tables(alloc, json.as_bytes()) {
+        Ok(tables) => Ok(Some(Box::new(alloc, tables)?)),
         Err(RunFault::Unlawful) => Ok(None),
         Err(fault) => Err(fault),
     }
-}
-
-fn read_lawful_font(alloc: Global, tables: &str, line: &str) -> Result<Box<Font>, RunFault> {
-    let Some((count, json)) = line.split_once(' ') else {
-        return Err(RunFault::Words);
-    };
-    let count: u32 = count.parse().map_err(|_| RunFault::Words)?;
-    let has_ligatures = json.contains(LIGATURE);
-    let input = read_input(alloc, tables.as_bytes(), json.as_bytes())?;
-    let font = Font {
-        input,
-        count,
-        has_ligatures,
-    };
-    Ok(Box::new(alloc, font)?)
 }
 
 fn read_words(alloc: Global, line: &str) -> Result<Options, RunFault> {
@@ -110,9 +101,16 @@ fn read_words(alloc: Global, line: &str) -> Result<Options, RunFault> {
     Ok(parse_options(alloc, &words)?.options)
 }
 
-fn test(alloc: Global, font: &Font, options: &Options, text: &str) -> Result<Outcome, RunFault> {
+fn test(
+    alloc: Global,
+    tables: &TextTables,
+    font: &Font,
+    options: &Options,
+    text: &str,
+) -> Result<Outcome, RunFault> {
     let trial = Trial {
         alloc,
+        tables,
         font,
         options,
         text,

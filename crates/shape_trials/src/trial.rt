@@ -7,8 +7,8 @@ use crate::alike::{Answer, But, agree};
 use crate::alone::{clusters_are_among, flags_are_even, numbers_are_below, slices_join};
 use crate::breaks::try_breaks;
 use crate::counts::Tested;
+use crate::font::Font;
 use crate::promise::Promise;
-use crate::session::Font;
 use buffer_common::constants::BufferFlags;
 use buffer_common::language::Language;
 use buffer_glyphs::cause::ShapeCause;
@@ -23,6 +23,7 @@ use shape_pipeline::{
 };
 use shell_readers::fault::RunFault;
 use shell_readers::options::Options;
+use shell_readers::tables::TextTables;
 use std::alloc::{AllocError, Global};
 
 /// The cluster levels, and whether each is monotone.
@@ -37,6 +38,7 @@ const LEVELS: [(BufferClusterLevel, bool); 4] = [
 #[derive(Drop)]
 pub(crate) struct Trial<'a> {
     pub(crate) alloc: Global,
+    pub(crate) tables: &'a TextTables,
     pub(crate) font: &'a Font,
     pub(crate) options: &'a Options,
     pub(crate) text: &'a str,
@@ -170,9 +172,9 @@ impl<'a> Trial<'a> {
 
     fn data(&self) -> hb_shape_data_t<'a, SyllableTable, LanguageTable> {
         hb_shape_data_t {
-            tables: &self.font.input.tables.characters,
-            spans: &self.font.input.tables.syllables,
-            languages: &self.font.input.tables.languages,
+            tables: &self.tables.characters,
+            spans: &self.tables.syllables,
+            languages: &self.tables.languages,
         }
     }
 
@@ -185,7 +187,7 @@ impl<'a> Trial<'a> {
     fn plan_for(&self, text: &UnicodeBuffer) -> Result<ShapePlan, RunFault> {
         let plan = ShapePlan::new(
             self.alloc,
-            &self.font.input.face,
+            &self.font.face,
             self.data(),
             text.guessed_direction(),
             text.guessed_script(),
@@ -212,14 +214,14 @@ impl<'a> Trial<'a> {
         plan: &ShapePlan,
         text: UnicodeBuffer,
     ) -> Result<Answer, RunFault> {
-        answer(shape_with_plan(self.alloc, &self.font.input.face, self.data(), plan, text))
+        answer(shape_with_plan(self.alloc, &self.font.face, self.data(), plan, text))
     }
 
     /// Whether some of the budget of nested lookups is left of a text.
     pub(crate) fn leaves_budget(&self, text: UnicodeBuffer) -> Result<bool, RunFault> {
         let left = nested_lookups_left(
             self.alloc,
-            &self.font.input.face,
+            &self.font.face,
             self.data(),
             &self.options.features,
             text,
@@ -236,7 +238,7 @@ impl<'a> Trial<'a> {
         let text = self.buffer(self.options.cluster_level, self.options.buffer_flags)?;
         answer(shape(
             self.alloc,
-            &self.font.input.face,
+            &self.font.face,
             self.data(),
             &self.options.features,
             text,

@@ -10,7 +10,7 @@ use buffer_glyphs::level::BufferClusterLevel;
 use std::alloc::{AllocError, Global};
 
 /// A call, with its arguments.
-#[derive(Drop)]
+#[derive(Clone, Copy)]
 pub enum Call {
     Add(char, u32),
     Ask(BufferFlags),

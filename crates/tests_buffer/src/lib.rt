@@ -8,6 +8,8 @@
 #[cfg(test)]
 mod call;
 #[cfg(test)]
+mod call_words;
+#[cfg(test)]
 mod growth;
 #[cfg(test)]
 mod in_place;

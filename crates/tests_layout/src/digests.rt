@@ -4,34 +4,6 @@ use layout_common::digest::{hb_set_digest_bits_pattern_t, hb_set_digest_ext, hb_
 use layout_common::low_bits::LowBits;
 use std::alloc::{AllocError, Global};
 
-/// A kind of set, what is done with one in turn, what with another one, and whether they may have a glyph in common.
-///
-/// `+3` adds a glyph, `+3+9` two at once, `+3-9` a range after which the set lacks a glyph, and `!3-9` a range after
-/// which it lacks none; `all` stands for the set of all glyphs; `3` says that the set may have a glyph, and `-3` that
-/// it may not.
-///
-/// `digest` has three kinds of buckets, and `covered` is one to which the glyphs 40 and 20 of a coverage were added.
-/// `bits` has buckets of 512 glyphs: a range of 63 of them has all but one bucket, one of 64 has all; glyphs 512 and
-/// 1023 are in one bucket, 1024 is in the next. `low` has buckets of 64 glyphs, whose numbers have the same ten low
-/// bits: a range of 1024 glyphs has all of them.
-pub(crate) static TABLES: &str = "\
-{}
-answers:
-set digest +5670-5675 +3 +8769 +10000 +3456-3460
-  5670 5671 5672 5673 5674 5675 3 8769 10000 3456 3457 3458 3459 3460, : apart
-set digest +3 3 32771 -67 -4099, : apart
-set covered , : apart
-set covered , +21+39: apart
-set covered , +21+39 +40: common
-set covered , all: common
-set bits +1000-32232 -487 32232 !1000-33256 487, : apart
-set bits +513-512 -512 -513 +512, +1024: apart
-set bits +513-512 -512 -513 +512, +1024 +1023: common
-set low +1000-1100 -999 1000 1100 -1101 2124 -77, +999+77: apart
-set low +1000-1100, +999+77 +76: common
-set low +1000-1100 +5000-6022 -4999 +5000-4999 -4999 !4999-4999 4999, : apart
-set low !5000-6023 4999, : apart";
-
 fn number(word: &str) -> Option<u16> {
     word.parse::<u16>().ok()
 }

@@ -9,68 +9,6 @@ use layout_map_features::lookup::lookup_map_t;
 use layout_map_features::per_table::TableIndex;
 use std::alloc::{AllocError, Global};
 
-/// Languages and requests, and the map for them and the script `grek`: the mask of all glyphs; each feature, by its tag,
-/// with its indices and stages in GSUB and GPOS, its lowest bit, its mask and that of the value 1, and its ways to match;
-/// and for each table the script, whether it was requested, and the lookups with their masks and ways to match, where a
-/// slash and a number stand for a pause between stages.
-///
-/// A request has a tag, flags and a value. The ways to match are whether ZWNJ and ZWJ are skipped, random, and per
-/// syllable. Masks are hexadecimal. The first font has a required feature without a request, which is in the first
-/// stage alone. For the second one requests of one tag are merged, and two features have one lookup; in the third one a
-/// feature is found in the whole list, and a pause precedes features; in the fourth one a required feature has no
-/// request, since the bits don't suffice.
-pub(crate) static TABLES: &str =
-    r#"{"gsub":{"lookups":[{"type":"single"}],"features":[["bbbb",[0]]],
-"scripts":[["DFLT",{"required":0,"features":[0]},[]],["grek",{"features":[0]},[]]]},
-"gpos":{"lookups":[{"type":"single"},{"type":"single"},{"type":"single"}],"features":[["x   ",[1,2]]],
-"scripts":[["DFLT",{"features":[0,0,0]},[["DEU ",{"required":0,"features":[0]}]]],
-["latn",{},[["dflt",{"features":[0,0,0]}]]]]}}
-answers:
-map DEU; bbbb 33 5, gpos-pause 3: 80000050;
-  bbbb [Some(0), None] [0, 0] 4 70 10 1110;
-  gsub grek true 0 70 1110; gpos DFLT false 1 80000000 1100, 2 80000000 1100 /3
-
-{"gsub":{"lookups":[{"type":"single"},{"type":"single"}],
-"features":[["aaaa",[0,1]],["ccmp",[0,1]],["ccmp",[0]],["ccmp",[]],["aaaa",[1]]],
-"scripts":[["DFLT",{"required":4,"features":[3,3]},[]],
-["grek",{"features":[0,1,2,3,4]},[["TRK ",{"features":[0,1,4]}]]]]},
-"gpos":{"lookups":[{"type":"single"}],"features":[["aaaa",[0]],["ccmp",[0]],["ccmp",[0]],["ccmp",[0]]],
-"scripts":[["latn",{"features":[0,1,2,3]},[]]]}}
-answers:
-map DEU; aaaa 1 4294967295, ccmp 5 2, aaaa 3 1, pause 7: 80000020;
-  aaaa [Some(0), Some(0)] [0, 0] 31 80000000 80000000 1100; ccmp [Some(1), Some(1)] [0, 0] 4 30 10 0100;
-  gsub grek true 0 80000030 0100, 1 80000030 0100 /7; gpos latn false 0 80000030 0100
-
-{"gsub":{"lookups":[{"type":"single"},{"type":"single"},{"type":"single"},{"type":"single"},{"type":"single"}],
-"features":[["aaaa",[]],["x   ",[4]]],
-"scripts":[["DFLT",{"features":[0,1]},[["DEU ",{"required":0,"features":[0,1]}]]]]},
-"gpos":{"lookups":[{"type":"single"},{"type":"single"}],
-"features":[["kern",[1]],["kern",[0,1]],["x   ",[1,1]],["kern",[0]],["aaaa",[0]]],
-"scripts":[["grek",{"required":3},[["dflt",{"features":[4,3,2]}]]]]}}
-answers:
-map ; kern 1 5, kern 1 3, pause 7, x 49 1, aaaa 0 1: 80000060;
-  aaaa [Some(0), Some(4)] [1, 0] 4 10 10 1100; kern [None, Some(3)] [0, 0] 5 60 20 1100;
-  x    [Some(1), Some(2)] [1, 0] 31 80000000 80000000 1110;
-  gsub DFLT false /7 4 80000000 1110; gpos grek true 0 70 1100, 1 80000000 1110
-
-{"gsub":{"lookups":[{"type":"single"},{"type":"single"}],
-"features":[["t002",[1]],["t002",[0]],["mark",[1]],["t000",[]]],
-"scripts":[["DFLT",{"required":3,"features":[0,1,2,3]},[["dflt",{"required":1,"features":[0,1,2,3]}]]]]},
-"gpos":{"lookups":[{"type":"single"}],
-"features":[["t004",[0]],["t000",[0]],["t001",[]],["bbbb",[0]],["t003",[0]]],
-"scripts":[["grek",{"required":0,"features":[0,1,2,3,4]},[["dflt",{"required":2,"features":[0,4,1]}]]]]}}
-answers:
-map ; mark 1 2, bbbb 2 1, mark 4 3, t000 1 255, t001 1 255, t002 1 255, t003 1 127, t004 1 255: bfffffc0;
-  bbbb [None, None] [0, 0] 4 10 10 1100; mark [Some(2), None] [0, 0] 5 60 20 1100;
-  t000 [Some(3), Some(1)] [0, 0] 7 7f80 80 1100; t002 [Some(0), None] [0, 0] 15 7f8000 8000 1100;
-  t003 [None, Some(4)] [0, 0] 23 3f800000 800000 1100;
-  gsub DFLT false 0 80000000 1100, 1 7f8060 1100; gpos grek true 0 3f807f80 1100
-
-{}
-answers:
-map ; gpos-pause 3, enable kern 2 1, disable liga, no-tag 3 1: 80000000;
-  kern [None, None] [0, 1] 31 80000000 80000000 1100; gsub none false; gpos none false /3"#;
-
 fn number(word: Option<&str>) -> u32 {
     word.unwrap_or("").parse::<u32>().unwrap_or(0)
 }

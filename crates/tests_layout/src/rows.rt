@@ -1,48 +1,57 @@
 //! Fonts and what they answer: each question with its words, and the answer as it prints. One function owns the fonts,
 //! since each function that does is dear to prove.
+use crate::counts::Counts;
+use crate::stop::Stop;
 use crate::{digests, fonts, maps, positions, requests, scripts, substitutions};
 use layout_face::Face;
 use shell_face_json::{read_by_keys, read_face_text};
 use shell_json::fault::JsonFault;
 use std::alloc::{AllocError, Global};
 use std::fmt::Debug;
-use std::process::Abort;
-use std::test::Fail;
 
-/// Texts of tables, separated by an empty line: each has a font, a line `answers:`, and rows, or `answers by parts:` for
-/// a font that is read by its parts as well, which takes less memory. An indented line continues a row.
-fn tables() -> [&'static str; 7] {
-    [
-        digests::TABLES,
-        fonts::TABLES,
-        maps::TABLES,
-        positions::TABLES,
-        requests::TABLES,
-        scripts::TABLES,
-        substitutions::TABLES,
-    ]
-}
-
-#[test]
-fn fonts_answer(rt: HostRuntime) -> Result<(), Fail> {
-    for text in tables() {
-        for table in text.split("\n\n") {
-            follow(&rt, rt.alloc(), table)?;
+/// Follows the tables of a file, and prints the first row of each whose font doesn't give its answer.
+pub(crate) fn follow_tables(rt: &HostRuntime, text: &str) -> Result<Counts, Stop> {
+    let mut counts = Counts::default();
+    for table in text.split("\n\n") {
+        if !table.starts_with('#') {
+            counts = counts.and(follow(rt, table)?);
         }
     }
-    Ok(())
+    Ok(counts)
 }
 
-/// The font of a table gives the answer of each row.
-fn follow(rt: &impl Abort, alloc: Global, table: &str) -> Result<(), Fail> {
-    let (font, rows) = table.split_once("\nanswers").ok_or("no answers")?;
-    let (way, rows) = rows.split_once('\n').ok_or("no rows")?;
+fn follow(rt: &HostRuntime, table: &str) -> Result<Counts, Stop> {
+    let Some((font, rows)) = table.split_once("\nanswers") else {
+        return Err(Stop::Unreadable);
+    };
+    let Some((way, rows)) = rows.split_once('\n') else {
+        return Err(Stop::Unreadable);
+    };
     if way == " by parts:" {
-        read_by_parts(alloc, font)?;
+        read_by_parts(rt.alloc(), font)?;
     }
-    let rows = rows.replace(alloc, "\n  ", " ")?;
-    assert_eq!(rt; first_wrong(alloc, font, &rows)?, None);
-    Ok(())
+    let rows = rows.replace(rt.alloc(), "\n  ", " ")?;
+    follow_rows(rt, font, &rows)
+}
+
+fn follow_rows(rt: &HostRuntime, font: &str, rows: &str) -> Result<Counts, Stop> {
+    let count = rows.lines().count();
+    let printed = match first_wrong(rt.alloc(), font, rows) {
+        Ok(None) => return Ok(Counts {
+            rows: count,
+            wrong: 0,
+        }),
+        Ok(Some(row)) => println!(rt; "{row}"),
+        Err(JsonFault::OutOfMemory) => return Err(Stop::OutOfMemory),
+        Err(fault) => println!(rt; "{}: {font}", fault.name()),
+    };
+    match printed {
+        Ok(()) => Ok(Counts {
+            rows: count,
+            wrong: 1,
+        }),
+        Err(_) => Err(Stop::Unwritten),
+    }
 }
 
 /// Reads a font that can be read by its parts, so that only want of memory can prevent it.

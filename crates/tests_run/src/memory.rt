@@ -1,4 +1,4 @@
-//! Runs over memory.
+//! Runs over memory, and rows of tests.
 use buffer_common::constants::BufferFlags;
 use buffer_common::direction::Direction;
 use buffer_glyphs::flags::SerializeFlags;
@@ -42,4 +42,9 @@ pub(crate) fn ran(
         Err(RunFault::OutOfMemory | RunFault::Write) => Err(AllocError),
         answer => Ok((answer, out)),
     }
+}
+
+/// A field of a row.
+pub(crate) fn field(row: &str, separator: char, at: usize) -> &str {
+    row.split(separator).nth(at).unwrap_or("").trim()
 }

@@ -8,7 +8,7 @@ use std::io::{ErrorKind, Read, Write};
 use std::test::Fail;
 
 /// Four glyphs and their widths.
-const FONT: &[u8] = br#"{"upem":1000,"ascender":800,"cmap":[[97,1],[98,2],[102,3],[105,4]],
+static FONT: &str = r#"{"upem":1000,"ascender":800,"cmap":[[97,1],[98,2],[102,3],[105,4]],
   "h":[[1,500],[2,600],[3,300],[4,250]]}"#;
 
 // Gives one byte per call and then the end, which it counts.
@@ -109,7 +109,7 @@ fn reader(bytes: &[u8]) -> ByteReader<'_> {
 // The output of a run with room for that many bytes, and its result; each reader is read to its end once.
 fn ran_by_bytes(alloc: Global, room: usize) -> Result<(Result<(), RunFault>, Vec<u8>), Fail> {
     let options = plain_options(alloc);
-    let (mut tables, mut font, mut text) = (reader(b"{}"), reader(FONT), reader(b"ab"));
+    let (mut tables, mut font, mut text) = (reader(b"{}"), reader(FONT.as_bytes()), reader(b"ab"));
     let mut out = ByteWriter::new(alloc, room)?;
     let answer = run(alloc, options, &mut tables, &mut font, &mut text, &mut out);
     let answer = with_memory(answer)?;
@@ -155,7 +155,7 @@ fn failed_reads_come_first(rt: HostRuntime) -> Result<(), Fail> {
 fn ran_endlessly(alloc: Global) -> Result<(Result<(), RunFault>, Vec<u8>), AllocError> {
     let mut out = Vec::new(alloc);
     let asked = plain_options(alloc);
-    let (mut tables, mut font, mut text) = (EndlessReader, FONT, b"ab".as_slice());
+    let (mut tables, mut font, mut text) = (EndlessReader, FONT.as_bytes(), b"ab".as_slice());
     let answer = run(alloc, asked, &mut tables, &mut font, &mut text, &mut out);
     Ok((with_memory(answer)?, out))
 }
