@@ -113,9 +113,9 @@ def random_tables(draw: Random, alphabet: Alphabet, lawful: float) -> dict[str, 
 
 
 def keep_premises(value: dict[str, Any]) -> None:
-    """Changes random tables with lawful rows so that most keep the premises of safe breaks (docs/TOOLS.md): marks are
-    transparent, a letter has the joining type of its first half, Hangul has none, and only counterparts that are alike
-    and joiners that continue a grapheme are left."""
+    """Changes random tables with lawful rows so that most keep the premises of safe breaks, which
+    docs/TOOLS_FOR_DEVELOPERS.md lists: marks are transparent, a letter has the joining type of its first half, Hangul has
+    none, and only counterparts that are alike and joiners that continue a grapheme are left."""
     types = {row[0]: row[1] for row in value.get("joining", []) if not is_hangul(row[0])}
     types |= {row[0]: "T" for row in [*value["classes"], *([row[2]] for row in value["splits"] if row[2])]}
 

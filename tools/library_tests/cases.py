@@ -110,4 +110,4 @@ def font_file(name: str) -> Path:
         path = folder / f"{name}.ttf"
         if path.is_file():
             return path
-    raise ToolFault(FILES, f"{name}.ttf: no such font (docs/TOOLS.md names the packages)")
+    raise ToolFault(FILES, f"{name}.ttf: no such font (docs/TOOLS_FOR_DEVELOPERS.md names the packages)")

@@ -56,7 +56,7 @@ def main(words: list[str]) -> int:
     options = parser.parse_args(words)
     for command in ("gcc", "g++", "pkg-config", "valgrind"):
         if shutil.which(command) is None:
-            raise ToolFault(FILES, f"the command {command} is not on the path (docs/TOOLS.md names the packages)")
+            raise ToolFault(FILES, f"the command {command} is not on the path (docs/TOOLS_FOR_DEVELOPERS.md names the packages)")
     with cache_folder() as values, tempfile.TemporaryDirectory() as work:
         tested = Tested(place_of(LIBRARY, options.unproved), values, Path(work))
         tables, all_scripts = tables_file(values), scripts()

@@ -125,14 +125,14 @@ class Told(unittest.TestCase):
         self.assertIn("tools/fuzz --in-process --seed=1 --case=0", line_of(1, case, "plan"))
 
 
-# The sum of the first cases of the first seed for which docs/TOOLS.md was written. Where cases are drawn in another way it
+# The sum of the first cases of the first seed for which the table was written. Where cases are drawn in another way it
 # is another one, and so may be those that find the plants: run `tools/fuzz --plant=NAME` for each, and write them down.
 DRAWN = "6eafd1ba4c9b98e82509546dc8378eb6e465655aaa6d37018c0864fafefdf974"
 
 
 def documented() -> dict[str, tuple[str, int]]:
-    """For each plant of the table in docs/TOOLS.md the promise and the case of the first seed that find it."""
-    text = (ROOT / "docs" / "TOOLS.md").read_text(encoding="utf-8")
+    """For each plant of the table in docs/TOOLS_FOR_DEVELOPERS.md the promise and the first seed's case that find it."""
+    text = (ROOT / "docs" / "TOOLS_FOR_DEVELOPERS.md").read_text(encoding="utf-8")
     rows = re.findall(r"^\| `(\w+)` \| .+ \| `(\w+)` \| ([\d,]+) \|$", text, re.MULTILINE)
     return {name: (promise, int(case.replace(",", ""))) for name, promise, case in rows}
 

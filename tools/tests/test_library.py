@@ -68,7 +68,7 @@ def has_fonts() -> bool:
     return False
 
 
-needs_their_fonts = unittest.skipUnless(has_fonts(), "needs the fonts of test_library (docs/TOOLS.md)")
+needs_their_fonts = unittest.skipUnless(has_fonts(), "needs the fonts of test_library (docs/TOOLS_FOR_DEVELOPERS.md)")
 
 
 @needs_their_fonts
