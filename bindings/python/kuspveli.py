@@ -214,6 +214,9 @@ class Fault(Exception):
         super().__init__(NAMES.get(status, f"status {status}"))
         self.status = status
 
+    def __reduce__(self) -> Any:
+        return Fault, (self.status,)
+
 
 def check(status: int) -> None:
     if status:

@@ -113,6 +113,20 @@ class Checked(unittest.TestCase):
             with self.assertRaises(TypeError):
                 self.binding.raw_text("a", **settings)
 
+    def test_interface(self) -> None:
+        """A library with another first number of the version is refused, and one with a lower second number: it lacks calls."""
+        with mock.patch.object(self.binding, "__version__", "1.2.3+unproved"):
+            for found in ((1, 2, 0), (1, 2, 9), (1, 3, 0)):
+                self.binding.check_version(found)
+            for found in ((0, 9, 9), (1, 1, 9), (2, 0, 0)):
+                with self.assertRaisesRegex(ImportError, rf"of version {'.'.join(map(str, found))}, and kuspveli.py of 1.2.3"):
+                    self.binding.check_version(found)
+
+    def test_copied(self) -> None:
+        """A fault keeps its status where it is copied or pickled, as by another process."""
+        again = copy.copy(self.binding.Fault(23))
+        self.assertEqual((str(again), again.status), ("F4 Index", 23))
+
     def test_characters(self) -> None:
         """Of each byte the character that it is a part of."""
         self.assertEqual(self.binding.character_indices("aé€😀b".encode()), array("I", [0, 1, 1, 2, 2, 2, 3, 3, 3, 3, 4]))
