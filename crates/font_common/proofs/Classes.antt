@@ -2,6 +2,7 @@
 use Rattle.std.proofs.Common.{◌≡◌, ◌≢◌, ℕ, zero, suc, ◌+◌, ◌-◌, ◌<◌, List, [], ◌∷◌, ◌++◌, refl, sym, ap, ◌∙◌, arith, true}
 use Rattle.layout_common.specs.declared.glyph_row.GlyphRow.{GlyphRow}
 use Rattle.font_common.specs.declared.class_definition.ClassRangeRecord.{ClassRangeRecord}
+use Rattle.font_common.specs.Coverage.{least_after}
 use Rattle.font_common.specs.ClassDefinition.{class_row, listed_rows, class_run, is_next_range, are_class_ranges}
 use Rattle.buffer_facts.proofs.Lists.{one_done}
 
@@ -30,5 +31,5 @@ pub listed_more : (first index class : ℕ) (classes : List ℕ) → listed_rows
 listed_more first index class classes = let next : first + index + 1 ≡ first + (index + 1) = omega arith in rw next refl
 
 -- a range that may follow
-pub class_ranges_step : (least : ℕ) (r : ClassRangeRecord) (rs : List ClassRangeRecord) → is_next_range least r ≡ true → are_class_ranges least (r ∷ rs) ≡ are_class_ranges r.last rs
+pub class_ranges_step : (least : ℕ) (r : ClassRangeRecord) (rs : List ClassRangeRecord) → is_next_range least r ≡ true → are_class_ranges least (r ∷ rs) ≡ are_class_ranges (least_after least r.first r.last) rs
 class_ranges_step least r rs next = rw next refl

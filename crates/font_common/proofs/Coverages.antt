@@ -2,7 +2,7 @@
 use Rattle.std.proofs.Common.{◌≡◌, ◌≢◌, ℕ, zero, suc, ◌+◌, ◌-◌, ◌<◌, ◌≤◌, nat_le, true, List, [], ◌∷◌, ◌++◌, length, refl, sym, ap, ◌∙◌, append_assoc, arith}
 use Rattle.std.proofs.lemmas.Bool.Decides.{nat_tests}
 use Rattle.font_common.specs.declared.coverage.RangeRecord.{RangeRecord}
-use Rattle.font_common.specs.Coverage.{never_fall, glyph_run, range_length, is_next, are_ranges}
+use Rattle.font_common.specs.Coverage.{never_fall, glyph_run, least_after, range_length, is_next, are_ranges}
 use Rattle.buffer_facts.proofs.Lists.{one_done}
 
 -- ---- any list
@@ -39,5 +39,5 @@ length-glyph_run first zero = refl
 length-glyph_run first (suc count) = ap suc (length-glyph_run (first + 1) count)
 
 -- a range that may follow
-pub ranges_step : (least index : ℕ) (r : RangeRecord) (rs : List RangeRecord) → is_next least index r ≡ true → are_ranges least index (r ∷ rs) ≡ are_ranges r.last (index + range_length r) rs
+pub ranges_step : (least index : ℕ) (r : RangeRecord) (rs : List RangeRecord) → is_next least index r ≡ true → are_ranges least index (r ∷ rs) ≡ are_ranges (least_after least r.first r.last) (index + range_length r) rs
 ranges_step least index r rs next = rw next refl

@@ -11,6 +11,7 @@ use Rattle.font_bytes.specs.Room.{room_after}
 use Rattle.layout_common.specs.declared.class_definition.ClassDefinition.{ClassDefinition}
 use Rattle.layout_common.specs.declared.glyph_row.GlyphRow.{GlyphRow}
 use Rattle.font_common.specs.declared.class_definition.ClassRangeRecord.{ClassRangeRecord}
+use Rattle.font_common.specs.Coverage.{has_glyphs, least_after}
 use Rattle.font_common.specs.Rows.{first_rows}
 
 -- the row of a glyph with its class, none for class 0, which a glyph without a row has
@@ -53,14 +54,15 @@ class_run class first (suc count) = record { glyph = first; value = class } ∷ 
 abbrev pub class_rows_of : ClassRangeRecord → List (GlyphRow ℕ)
 class_rows_of r = if r.class == 0 then [] else class_run r.class r.first (r.last + 1 - r.first)
 
--- whether a range may follow glyphs up to a greatest one: it has glyphs, and none is below that one
+-- whether a range may follow: it has no glyphs, or none below a least one
 abbrev pub is_next_range : ℕ → ClassRangeRecord → Bool
-is_next_range least r = nat_le least r.first && nat_le r.first r.last
+is_next_range least r = if has_glyphs r.first r.last then nat_le least r.first else true
 
--- whether ranges never fall: the specification wants them to rise, and the last glyph of one may be the first of the next
+-- whether ranges with glyphs never fall: the specification wants them to rise, and the last glyph of one may be the first of
+-- the next
 abbrev pub are_class_ranges : ℕ → List ClassRangeRecord → Bool
 are_class_ranges least [] = true
-are_class_ranges least (r ∷ rs) = is_next_range least r && are_class_ranges r.last rs
+are_class_ranges least (r ∷ rs) = is_next_range least r && are_class_ranges (least_after least r.first r.last) rs
 
 -- classRangeRecords: classRangeCount records from an offset on
 abbrev pub class_range_array : List ℕ → ℕ → ℕ → List ClassRangeRecord

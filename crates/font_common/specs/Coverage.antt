@@ -38,6 +38,14 @@ abbrev pub glyph_run : ℕ → ℕ → List ℕ
 glyph_run first zero = []
 glyph_run first (suc count) = first ∷ glyph_run (first + 1) count
 
+-- whether a range from a first glyph to a last one has glyphs: one that ends before it begins has none
+abbrev pub has_glyphs : ℕ → ℕ → Bool
+has_glyphs first last = nat_le first last
+
+-- the least glyph that the range after one may begin with, by the least of that one: its last glyph, if it has glyphs
+abbrev pub least_after : ℕ → ℕ → ℕ → ℕ
+least_after least first last = if has_glyphs first last then last else least
+
 -- how many glyphs a range has
 abbrev pub range_length : RangeRecord → ℕ
 range_length r = r.last + 1 - r.first
@@ -46,14 +54,14 @@ range_length r = r.last + 1 - r.first
 abbrev pub run_of : RangeRecord → List ℕ
 run_of r = glyph_run r.first (range_length r)
 
--- whether a range may follow glyphs up to a greatest one, as many as an index: it has glyphs, and the index is its first one's
+-- whether a range may follow: it has no glyphs, or none below a least one, and its start index is the number of those before
 abbrev pub is_next : ℕ → ℕ → RangeRecord → Bool
-is_next least index r = nat_le least r.first && nat_le r.first r.last && r.start_index == index
+is_next least index r = if has_glyphs r.first r.last then nat_le least r.first && r.start_index == index else true
 
--- whether ranges never fall and each has as its start index the number of the glyphs before it
+-- whether ranges with glyphs never fall, and each has as its start index the number of the glyphs before it
 abbrev pub are_ranges : ℕ → ℕ → List RangeRecord → Bool
 are_ranges least index [] = true
-are_ranges least index (r ∷ rs) = is_next least index r && are_ranges r.last (index + range_length r) rs
+are_ranges least index (r ∷ rs) = is_next least index r && are_ranges (least_after least r.first r.last) (index + range_length r) rs
 
 -- rangeRecords: rangeCount records from an offset on
 abbrev pub range_array : List ℕ → ℕ → ℕ → List RangeRecord

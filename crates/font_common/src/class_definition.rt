@@ -3,6 +3,7 @@ ghost use Rattle.std.specs.Prelude.{◌≡◌, ◌≢◌, ◌≤◌, ◌+◌, �
 ghost use Rattle.font_bytes.specs.declared.fault.TableFault.{TableFault};
 ghost use Rattle.font_common.specs.ClassDefinition.{all_class_rows, class_array, class_definition_at, class_range_array, class_range_record, class_row, class_rows_at, class_rows_of, class_run, glyph_count, is_next_range, listed_classes, listed_rows, range_classes, rows_in_ranges};
 
+use crate::coverage::least_after;
 use crate::offsets::TableReader;
 use crate::rows::first_rows;
 use buffer_rows::SortedRows;
@@ -75,7 +76,6 @@ fn read_listed(
 
 /// Appends the rows of a range, unless its class is 0.
 fn push_range(rows: &mut Vec<GlyphRow<u16>>, range: ClassRangeRecord) -> Result<(), TableFault>
-    requires { range.first ≤ range.last }
     ensures ok { OnOk result (rows.new.items ≡ rows.old.items ++ class_rows_of range) }
     ensures refused { IfErr result (λ e. e ≡ TableFault.OutOfMemory) }
 {
@@ -85,7 +85,7 @@ fn push_range(rows: &mut Vec<GlyphRow<u16>>, range: ClassRangeRecord) -> Result<
     push_run(rows, range.class, range.first, range.last)
 }
 
-/// Appends the rows of the glyphs from one to another that isn't below it, of one class.
+/// Appends the rows of the glyphs from one to another, of one class; none where that is below it.
 #[tactic(auto, using(crate::proofs::Classes::run_pushed))]
 fn push_run(
     rows: &mut Vec<GlyphRow<u16>>,
@@ -93,11 +93,10 @@ fn push_run(
     first: u16,
     last: u16,
 ) -> Result<(), TableFault>
-    requires { first ≤ last }
     ensures ok { OnOk result (rows.new.items ≡ rows.old.items ++ class_run class first (last + 1 - first)) }
     ensures refused { IfErr result (λ e. e ≡ TableFault.OutOfMemory) }
 {
-    let count = u32::from(last) + 1 - u32::from(first);
+    let count = (u32::from(last) + 1).saturating_sub(u32::from(first));
     for offset in 0..count {
         rows.push(GlyphRow {
             glyph: (u32::from(first) + offset) as u16,
@@ -107,11 +106,11 @@ fn push_run(
     Ok(())
 }
 
-/// Whether a range may follow: it has glyphs, and none is below those before it.
+/// Whether a range may follow: it has no glyphs, or none is below those before it.
 fn is_next_range(range: ClassRangeRecord, least: u16) -> bool
     ensures { result ≡ is_next_range least range }
 {
-    least <= range.first && range.first <= range.last
+    range.last < range.first || least <= range.first
 }
 
 /// Reads the rows of an array of classes of glyphs from one on.
@@ -158,7 +157,7 @@ fn read_range_array(
             return Err(TableFault::Order(at));
         }
         push_range(&mut rows, range)?;
-        least = range.last;
+        least = least_after(least, range.first, range.last);
     }
     Ok(rows)
 }

@@ -1,7 +1,7 @@
 //! Reads coverage tables (OpenType, chapter 2, coverage table).
 ghost use Rattle.std.specs.Prelude.{◌≡◌, ◌≢◌, ◌≤◌, ◌<◌, ◌+◌, ◌-◌, ◌*◌, ◌^◌, ◌++◌, length, IfOk, IfErr, OnOk, Ok, Err};
 ghost use Rattle.font_bytes.specs.Words.{word};
-ghost use Rattle.font_common.specs.Coverage.{is_next, range_record, glyph_run, listed_glyphs, range_glyphs, glyphs_at, glyphs_at_offset, coverage_at, glyphs_in_room};
+ghost use Rattle.font_common.specs.Coverage.{is_next, least_after, range_record, glyph_run, listed_glyphs, range_glyphs, glyphs_at, glyphs_at_offset, coverage_at, glyphs_in_room};
 
 use font_bytes::fault::TableFault;
 use font_bytes::room::Room;
@@ -52,14 +52,13 @@ fn read_listed(alloc: Global, table: &[u8], at: usize) -> Result<Vec<u16>, Table
     Ok(glyphs)
 }
 
-/// Appends the glyphs from one to another that isn't below it.
+/// Appends the glyphs from one to another, none where that is below it.
 #[tactic(auto, using(crate::proofs::Coverages::run_pushed))]
 fn push_run(glyphs: &mut Vec<u16>, first: u16, last: u16) -> Result<(), TableFault>
-    requires { first ≤ last }
     ensures ok { OnOk result (glyphs.new.items ≡ glyphs.old.items ++ glyph_run first (last + 1 - first)) }
     ensures refused { IfErr result (λ e. e ≡ TableFault.OutOfMemory) }
 {
-    let count = u32::from(last) + 1 - u32::from(first);
+    let count = (u32::from(last) + 1).saturating_sub(u32::from(first));
     for offset in 0..count {
         glyphs.push((u32::from(first) + offset) as u16)?;
     }
@@ -98,16 +97,27 @@ fn read_ranges(alloc: Global, table: &[u8], at: usize) -> Result<Vec<u16>, Table
             return Err(TableFault::Order(at));
         }
         push_run(&mut glyphs, range.first, range.last)?;
-        least = range.last;
+        least = least_after(least, range.first, range.last);
     }
     Ok(glyphs)
 }
 
-/// Whether a range may follow: no glyph of it is below those before it, and its start index is their number.
+/// The least glyph that the range after one may begin with: the last one of a range with glyphs, else what it was.
+pub(crate) fn least_after(least: u16, first: u16, last: u16) -> u16
+    ensures { result ≡ least_after least first last }
+{
+    if first <= last { last } else { least }
+}
+
+/// Whether a range may follow: it has no glyphs, or none is below those before it, whose number is its start index.
 fn is_next(range: RangeRecord, least: u16, index: usize) -> bool
     ensures { result ≡ is_next least index range }
 {
-    least <= range.first && range.first <= range.last && usize::from(range.start_index) == index
+    if range.first <= range.last {
+        least <= range.first && usize::from(range.start_index) == index
+    } else {
+        true
+    }
 }
 
 /// Reads the glyphs of a coverage table, in the order of their coverage indices.

@@ -44,6 +44,37 @@ fn examples_are_read(rt: HostRuntime) -> Result<(), Fail> {
     reads(&rt, rt.alloc(), &[0, 1, 0, 0], &[])
 }
 
+/// A range that ends before it begins has no glyph, wherever it stands.
+#[test]
+fn ranges_without_glyphs_are_passed_over(rt: HostRuntime) -> Result<(), Fail> {
+    reads(&rt, rt.alloc(), &[0, 2, 0, 1, 0, 5, 0, 4, 0, 0], &[])?;
+    let between = [
+        0, 2, 0, 3, 0, 5, 0, 6, 0, 0, 0, 9, 0, 2, 0, 7, 0, 7, 0, 7, 0, 2,
+    ];
+    reads(&rt, rt.alloc(), &between, &[5, 6, 7])?;
+    let falling = [
+        0, 2, 0, 3, 0, 7, 0, 8, 0, 0, 0, 9, 0, 2, 0, 2, 0, 6, 0, 6, 0, 2,
+    ];
+    refuses(&rt, rt.alloc(), &falling, TableFault::Order(0))?;
+    let of_padmaa = [
+        0, 2, 0, 3, 1, 0x32, 1, 0x32, 0, 2, 1, 0x33, 0, 2, 0, 1, 1, 0x35, 1, 0x77, 0, 2,
+    ];
+    classes(
+        &rt,
+        rt.alloc(),
+        &of_padmaa,
+        &[
+            (2, 0),
+            (306, 2),
+            (307, 0),
+            (308, 0),
+            (309, 2),
+            (375, 2),
+            (376, 0),
+        ],
+    )
+}
+
 #[test]
 fn damage_is_refused(rt: HostRuntime) -> Result<(), Fail> {
     let alloc = rt.alloc();
@@ -51,12 +82,6 @@ fn damage_is_refused(rt: HostRuntime) -> Result<(), Fail> {
     refuses(&rt, alloc, &[0, 1, 0, 2, 0, 5, 0], TableFault::Short(4))?;
     reads(&rt, alloc, &[0, 3, 0, 0], &[])?;
     refuses(&rt, alloc, &[0, 1, 0, 2, 0, 5, 0, 4], TableFault::Order(0))?;
-    refuses(
-        &rt,
-        alloc,
-        &[0, 2, 0, 1, 0, 5, 0, 4, 0, 0],
-        TableFault::Order(0),
-    )?;
     refuses(
         &rt,
         alloc,
