@@ -20,6 +20,7 @@ from common.faults import ToolFault
 from common.notes import Notes
 from common.parsing import Words
 from fontjson.cli import read_font
+from fontjson.program import reader
 from fuzzing.in_process import run_stream
 from fuzzing.streams import font_line, tables_line, text_line, words_line
 from shaping.cache import cache_folder
@@ -73,6 +74,7 @@ def main(given: list[str]) -> int:
     """Cuts; its status is 1 where a line isn't as it should be for no known reason."""
     options = parser().parse_args(given)
     program = ready_trials(NAME)
+    reader()  # before there are processes, each of which would look for it
     tried: list[Tried] = []
     with cache_folder() as kept, ProcessPoolExecutor(options.jobs) as pool:
         tables = tables_file(kept).read_bytes().replace(b"\n", b" ")

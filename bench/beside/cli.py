@@ -16,7 +16,8 @@ from beside.differences import Difference, difference
 from beside.kept import INSTRUCTIONS, NANOSECONDS, Kept, read_kept, run_of, write_kept
 from beside.pages import text_of, words_of
 from beside.programs import THEIRS, Files, build_driver, printed_by
-from beside.sets import PACKAGES, SETS, Set
+from beside.opening import opening_lines
+from beside.sets import OPENED, PACKAGES, SETS, Set
 from beside.steps import Steps
 from beside.table import Row, of_glyphs, summary, tables
 from beside.works import LARGE, PAGE, Measure, measure_of, take_counts, take_peaks, take_times
@@ -25,11 +26,9 @@ from building.ready import usable
 from common.documents import replace_part
 from common.faults import FILES, WORDS, ToolFault
 from common.files import write_file
-from common.notes import Notes
 from common.parsing import Words
-from fontjson.cli import read_font
-from shaping.cache import cache_folder, cached, fingerprint, font_name
-from shaping.converting import FONT_READ, tables_file
+from shaping.cache import cache_folder
+from shaping.converting import font_value, tables_file
 
 NAME = "real"
 # Programs that a run needs, each with its package.
@@ -37,6 +36,7 @@ PROGRAMS = ((THEIRS, "libharfbuzz-bin"), ("gcc", "gcc"), ("pkg-config", "pkg-con
 # Pages of the longer text. Instructions know no caches, so by them one is measured only where it is asked for.
 PAGES, COUNTED_PAGES = 11, 1
 BEGIN, END = (f"<!-- bench/real --table {word} -->" for word in ("begins", "ends"))
+BEGIN_OPENING, END_OPENING = (f"<!-- bench/real --opening --table {word} -->" for word in ("begins", "ends"))
 
 ABOUT = f"""Measures the library for C beside libharfbuzz, and the program beside hb-shape, on real fonts of Debian's
 packages and composed texts that don't repeat. Prints tables in Markdown: what Kuspveli takes over what HarfBuzz takes.
@@ -64,6 +64,7 @@ examples:
   bench/real --instructions --jobs 4    by instructions, four sets at once
   bench/real --memory                   also the peak of memory for {LARGE:,} characters
   bench/real --glyphs                   compares glyphs, and measures nothing
+  bench/real --opening                  opening font files by their bytes, whole and without boxes and names
   bench/real --texts FOLDER             writes the pages and words, and measures nothing
   bench/real --keep docs/speed.json     keeps the numbers, which the next line shows and draws again
   bench/real --from docs/speed.json --table docs/SPEED.md --chart docs/pictures/speed.svg"""
@@ -75,14 +76,16 @@ def main(words: list[str]) -> int:
     if options.kept is not None:
         show(read_kept(options.kept), options)
         return 0
-    sets = chosen_sets(options.only)
+    sets = list(OPENED) if options.opening else chosen_sets(options.only)
     if options.texts is not None:
         write_texts(options.texts, sets)
         return 0
-    need(sets, options.program, options.library)
+    need(sets, None if options.opening else options.program, options.library)
     if options.cpu is not None:
         os.sched_setaffinity(0, {options.cpu})
     with tempfile.TemporaryDirectory() as made, cache_folder() as values:
+        if options.opening:
+            return show_opening(sets, options, Path(made))
         return measure_all(sets, options, Path(made), values)
 
 
@@ -95,6 +98,7 @@ def read_options(words: list[str]) -> argparse.Namespace:
     add_sizes(parser)
     parser.add_argument("--memory", action="store_true", help=f"also the peak of memory for {LARGE:,} characters")
     parser.add_argument("--glyphs", action="store_true", help="compare glyphs, and measure nothing")
+    parser.add_argument("--opening", action="store_true", help="measure opening some font files and a first word alone")
     parser.add_argument("--texts", type=Path, metavar="FOLDER", help="write the pages and words, and measure nothing")
     program, library = standing(PROGRAM).file, standing(LIBRARY).file
     parser.add_argument("--program", type=Path, default=program, metavar="FILE", help="the program to measure")
@@ -152,9 +156,9 @@ def has_word(chosen: Set, word: str) -> bool:
     return word.casefold() in chosen.title.casefold()
 
 
-def need(sets: list[Set], program: Path, library: Path) -> None:
+def need(sets: list[Set], program: Path | None, library: Path) -> None:
     """Refuses before anything is made where a program, the library or a font is missing."""
-    if not os.access(program, os.X_OK):
+    if program is not None and not os.access(program, os.X_OK):
         raise ToolFault(FILES, f"{program} is not there: tools/build proves and builds it")
     if not library.is_file():
         raise ToolFault(FILES, f"{library} is not there: tools/build_library proves and builds it")
@@ -164,7 +168,8 @@ def need(sets: list[Set], program: Path, library: Path) -> None:
         packages.add("libharfbuzz-dev")
     if packages:
         raise ToolFault(FILES, f"apt-get install {' '.join(sorted(packages))}: what is measured or read is not there")
-    usable(NAME, program)
+    if program is not None:
+        usable(NAME, program)
 
 
 def write_texts(folder: Path, sets: list[Set]) -> None:
@@ -185,12 +190,22 @@ def command_of(options: argparse.Namespace) -> str:
 # ---- a run
 
 
+def show_opening(sets: list[Set], options: argparse.Namespace, made: Path) -> int:
+    """Measures opening font files by their bytes, and prints the table, or writes it into a document."""
+    driver = build_driver(made, options.library)
+    lines = opening_lines(sets, driver, options.runs, options.instructions, made)
+    if options.table is not None:
+        replace_part(options.table, BEGIN_OPENING, END_OPENING, lines)
+    print("\n".join(lines))
+    return 0
+
+
 def measure_all(sets: list[Set], options: argparse.Namespace, made: Path, values: Path) -> int:
     """Compares the glyphs of all sets, measures them, and shows the tables and the summary."""
     driver, tables_made, steps = build_driver(made, options.library), tables_file(values), Steps(NAME, len(sets))
     measures: dict[str, Measure] = {}
     for at, chosen in enumerate(sets):
-        files = Files(chosen, options.program, tables_made, font_file(values, chosen.font), driver)
+        files = Files(chosen, options.program, tables_made, font_value(values, chosen.font, 0), driver)
         measures[chosen.title] = measure_of(files, characters_of(chosen.font), options.pages, made / str(at))
     unlike: dict[str, Difference | None] = {}
     steps.each("glyphs", measures, lambda measure: unlike.update({measure.title: differences(measure)}))
@@ -247,13 +262,6 @@ def take_all(
 def row_of(measure: Measure, unlike: Difference | None) -> Row:
     chosen = measure.files.chosen
     return Row(chosen.name, chosen.font_name, measure.pairs(), of_glyphs(unlike))
-
-
-def font_file(folder: Path, path: Path) -> Path:
-    """The font as the program reads it; it is kept, and shared with tools/shape."""
-    status = path.stat()
-    stamp = fingerprint(str(path.resolve()), status.st_size, status.st_mtime_ns, 0, FONT_READ)
-    return cached(folder / font_name(path, 0), stamp, lambda: read_font(str(path), 0, FONT_READ, Notes()))
 
 
 def characters_of(path: Path) -> frozenset[int]:

@@ -6,13 +6,18 @@
  *
  * TABLES and FONT are what libkuspveli reads, FILE is the font file. TEXTS names a file, whose lines are shaped one
  * after another in a round. The kinds: `kept`, by plans that are kept; `anew`, the plan is made for each text; `open`,
- * the font is opened (over tables that are there) and the first text shaped; `first`, the tables are read too.
+ * the font is opened (over tables that are there) and the first text shaped; `first`, the tables are read too; `file`,
+ * FILE is opened by libkuspveli too, over tables that are there; `bare`, without boxes and names.
  *
  * A round of either follows one of the other, after a round of both whose time isn't taken. Nothing is printed in a
  * round. Under callgrind a round of each side is counted, and dumped. */
 #define _POSIX_C_SOURCE 200809L
 #include <hb-ot.h>
 #include <hb.h>
+#include <fcntl.h>
+#include <sys/mman.h>
+#include <sys/stat.h>
+#include <unistd.h>
 #include <valgrind/callgrind.h>
 #include "clock.h"
 #include "common.h"
@@ -31,7 +36,7 @@ typedef struct {
   size_t count;
 } texts_t;
 
-typedef enum { KEPT, ANEW, OPEN, FIRST } kind_t;
+typedef enum { KEPT, ANEW, OPEN, FIRST, BY_FILE, BARE } kind_t;
 
 /* What the two sides shape by. */
 static const char *language, *tables_file, *json_file, *font_file;
@@ -72,11 +77,32 @@ own_shape (kus_font_t *font, line_t line, const kus_feature_t *feature)
   kus_get_glyphs (font, infos, room, positions, room);
 }
 
+/* The font file, mapped as libharfbuzz maps it. */
+static kus_font_t
+open_mapped (uint32_t flags)
+{
+  struct stat about;
+  int number = open (font_file, O_RDONLY);
+  if (number < 0 || fstat (number, &about)) fail ("cannot read", font_file);
+  size_t length = (size_t) about.st_size;
+  void *bytes = mmap (NULL, length, PROT_READ, MAP_PRIVATE, number, 0);
+  if (bytes == MAP_FAILED) fail ("cannot map", font_file);
+  kus_font_t font = KUS_FONT_INIT;
+  kus_status_t status = kus_font_create_from_bytes (&font, &tables, bytes, length, 0, flags);
+  if (status != KUS_OK) fail (font_file, kus_status_name (status));
+  munmap (bytes, length);
+  close (number);
+  return font;
+}
+
 static void
 own_open (kind_t kind, line_t line)
 {
   if (kind == FIRST) opened_tables = open_tables (tables_file);
-  opened = open_font_over (kind == FIRST ? &opened_tables : &tables, json_file);
+  if (kind >= BY_FILE)
+    opened = open_mapped (kind == BARE ? KUS_FONT_WITHOUT_EXTENTS | KUS_FONT_WITHOUT_NAMES : KUS_FONT_DEFAULT);
+  else
+    opened = open_font_over (kind == FIRST ? &opened_tables : &tables, json_file);
   own_shape (&opened, line, NULL);
 }
 
@@ -254,8 +280,8 @@ read_texts (const char *name)
 static kind_t
 kind_of (const char *word, size_t length)
 {
-  static const char *const names[] = { "kept", "anew", "open", "first" };
-  for (int kind = KEPT; kind <= FIRST; kind++)
+  static const char *const names[] = { "kept", "anew", "open", "first", "file", "bare" };
+  for (int kind = KEPT; kind <= BARE; kind++)
     if (strlen (names[kind]) == length && !memcmp (names[kind], word, length)) return (kind_t) kind;
   fail ("no such kind", word);
   return KEPT;

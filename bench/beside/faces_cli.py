@@ -3,14 +3,13 @@
 import contextlib
 import json
 import subprocess
-import sys
 from collections import Counter
 from concurrent.futures import ProcessPoolExecutor, as_completed
 from functools import partial
 from pathlib import Path
 from typing import Any, Callable, Iterator
 
-from beside.faces_try import BOTH, DIFFERS, READ, REFUSED, SAME, UNCONVERTED, Compared, compare, indices, read_alone
+from beside.faces_try import BOTH, CONVERTER, DIFFERS, READ, REFUSED, SAME, UNCONVERTED, Compared, compare, indices, read_alone
 from beside.fonts_cli import USUAL, fonts_of
 from common.faults import FILES, WORDS, ToolFault
 from common.files import faults_of
@@ -21,8 +20,9 @@ from sources.crates import ROOT
 
 NAME = "faces"
 ABOUT = """Reads each font file of some folders by the program kuspveli, which prints FONT of its bytes (--json), and by
-the converter font_to_json, and compares the two values. A line is printed for each font whose values differ or that one
-of the two refuses, and at the end how many there are of each kind. The status is 1 where values differ."""
+font_to_json of a commit that read the bytes by itself, and compares the two values. A line is printed for each font whose
+values differ or that one of the two refuses, and at the end how many there are of each kind. The status is 1 where values
+differ."""
 ENDS = (SAME, DIFFERS, REFUSED, UNCONVERTED, BOTH)
 
 
@@ -31,7 +31,7 @@ def main(words: list[str]) -> int:
     parser = Words(prog=NAME, description=ABOUT)
     parser.add_argument("folders", nargs="*", type=Path, default=[USUAL], metavar="FOLDER", help=f"or a font ({USUAL})")
     parser.add_argument("--program", type=Path, metavar="FILE", required=True, help="the program kuspveli")
-    parser.add_argument("--converter", metavar="COMMIT", help="font_to_json as of a commit, in place of the one here")
+    parser.add_argument("--converter", metavar="COMMIT", help="font_to_json as of a commit")
     parser.add_argument("--alone", action="store_true", help="read by the program alone, without the converter")
     parser.add_argument("--every", type=int, default=1, metavar="N", help="each Nth font alone (1)")
     parser.add_argument("--most", type=int, metavar="BYTES", help="leave larger files out")
@@ -39,10 +39,13 @@ def main(words: list[str]) -> int:
     parser.add_argument("--jobs", type=int, default=1, metavar="N", help="processes that read fonts (1)")
     parser.add_argument("--keep", type=Path, metavar="FILE", help="add what came of each font, pass over its fonts")
     options = parser.parse_args(words)
-    if options.converter is not None:
-        sys.path.insert(0, str(tools_of(options.converter)))
+    if options.alone == (options.converter is not None):
+        raise ToolFault(WORDS, "what the program is compared with: --converter=COMMIT, or nothing: --alone")
+    work = partial(read_alone, options.program)
+    if not options.alone:
+        work = partial(compare, options.program, tools_of(options.converter) / CONVERTER)
     paths = [path for path in fonts_of(options.folders) if is_wanted(path, options)][:: options.every]
-    return told(list(all_compared(paths, options)))
+    return told(list(all_compared(paths, work, options)))
 
 
 def tools_of(commit: str) -> Path:
@@ -67,14 +70,13 @@ def is_wanted(path: Path, options: Any) -> bool:
     return options.least <= size and (options.most is None or size <= options.most)
 
 
-def all_compared(paths: list[Path], options: Any) -> Iterator[Compared]:
+def all_compared(paths: list[Path], work: Callable[[Path, int], Compared], options: Any) -> Iterator[Compared]:
     """What came of each font: first what is kept, then of the others."""
     known = kept(options.keep)
     yield from known
     done = {(each.font, each.index) for each in known}
     left = [(path, index) for path in paths for index in indices(path) if (str(path), index) not in done]
     progress = Progress(NAME)
-    work = partial(read_alone if options.alone else compare, options.program)
     for number, each in enumerate(tried(left, work, options.jobs), 1):
         keep(options.keep, each)
         if each.end not in (SAME, READ):
@@ -108,7 +110,7 @@ def keep(path: Path | None, each: Compared) -> None:
 
 
 def line_of(each: Compared) -> str:
-    unconverted = each.unconverted and f"font_to_json: {each.unconverted}"
+    unconverted = each.unconverted and f"{CONVERTER}: {each.unconverted}"
     theirs = each.theirs and f"hb-shape: {each.theirs}"
     said = "; ".join(filter(None, (each.where, each.fault, unconverted, theirs)))
     return clean(f"{each.end}: {each.font} {each.index}: {said}")

@@ -1,6 +1,7 @@
 """A font by the program, which prints FONT of the file's bytes, and by the converter: whether both are the same."""
 
 import json
+import os
 import shutil
 import subprocess
 import time
@@ -10,11 +11,9 @@ from itertools import zip_longest
 from pathlib import Path
 from typing import Any, Iterator
 
-from common.faults import ToolFault, one_line
-from common.notes import Notes
-from common.writing import object_text
+from common.faults import one_line
 
-THEIRS = "hb-shape"
+THEIRS, CONVERTER = "hb-shape", "font_to_json"
 # How a font ends: one value by both, two, refused by the program alone, by the converter alone, or by both; without a
 # converter read or refused.
 SAME, DIFFERS, REFUSED, UNCONVERTED, BOTH = "same", "differs", "refused", "not converted", "refused by both"
@@ -71,16 +70,16 @@ def printed(program: Path, path: Path, index: int, is_wanted: bool = True) -> Pr
     return Printed(None, said, seconds)
 
 
-def converted(path: Path, index: int) -> tuple[Any, str]:
-    """What the converter makes of a font, or its fault."""
-    from fontjson.cli import read_font  # the converter may be that of another commit
-    from fontjson.keep import Kept
-
-    try:
-        value = read_font(str(path), index, Kept(), Notes())
-    except ToolFault as told:
-        return None, str(told).removeprefix(f"{path}: ")
-    return json.loads(object_text(value)), ""
+def converted(converter: Path, path: Path, index: int) -> tuple[Any, str, float]:
+    """What the converter makes of a font, or its fault, and the seconds of processor time that it took."""
+    start = os.times()
+    ran = subprocess.run([converter, "--quiet", f"--index={index}", path], capture_output=True, check=False)
+    end = os.times()
+    seconds = end.children_user + end.children_system - start.children_user - start.children_system
+    if ran.returncode == 0:
+        return json.loads(ran.stdout), "", seconds
+    said = one_line(ran.stderr.decode(errors="replace")).removeprefix(f"{CONVERTER}: ").removeprefix(f"{path}: ")
+    return None, said or f"status {ran.returncode}", seconds
 
 
 # ---- what a value means
@@ -116,11 +115,10 @@ def indices(path: Path) -> range:
     return range(int.from_bytes(head[8:12], "big") if head[:4] == COLLECTION else 1)
 
 
-def compare(program: Path, path: Path, index: int) -> Compared:
+def compare(program: Path, converter: Path, path: Path, index: int) -> Compared:
     """Reads a font by both, and compares."""
-    own, start = printed(program, path, index), time.process_time()
-    theirs, unconverted = converted(path, index)
-    seconds = time.process_time() - start
+    own = printed(program, path, index)
+    theirs, unconverted, seconds = converted(converter, path, index)
     where = ""
     if own.value is not None and theirs is not None:
         where = next(differences(meaning(own.value), meaning(theirs)), "")

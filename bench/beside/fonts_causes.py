@@ -5,7 +5,7 @@ from functools import cache
 from fontTools import unicodedata
 
 from beside.differences import difference
-from beside.fonts_found import Found, Unlike
+from beside.fonts_found import KERNED, Found, Unlike
 from shaping.texts import script_of
 from unicodejson.cli import CRATE_VERSION, DEBIAN
 from unicodejson.ucd import Ucd, version_of
@@ -36,7 +36,7 @@ def cause_of(found: Found, unlike: Unlike) -> str:
         return FAULT
     if any(line in ("table morx", "table mort") for line in found.told):
         return AAT
-    if any("boxes" in line for line in found.told):
+    if KERNED in found.told:
         return BOXES
     text, script = unlike.text, script_of(unlike.text)
     seen, more = difference(unlike.own, unlike.theirs), circles(unlike.theirs, found) - circles(unlike.own, found)

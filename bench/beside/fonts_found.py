@@ -8,6 +8,10 @@ from typing import Iterator
 from common.files import faults_of
 
 
+# What of a font's tables a cause is seen by, beside those that change glyphs or positions.
+KERNED = "table kern without GPOS"
+
+
 @dataclass(frozen=True)
 class Unlike:
     """A text whose line differs: that of the program, or its fault, and that of hb-shape."""

@@ -10,13 +10,15 @@ from pathlib import Path
 from typing import Any, Iterator
 
 from beside.differences import difference
-from beside.fonts_found import Found, Unlike
+from beside.fonts_found import KERNED, Found, Unlike
 from beside.fonts_texts import texts_of
 from common.faults import ToolFault
 from common.files import faults_of
 from common.notes import Notes
 from fontjson.cli import read_font
 from fontjson.keep import KEYS, Kept
+from fontjson.program import reader
+from formats.sfnt import FontTables
 from shaping.cache import cached, fingerprint, font_name
 from shaping.context import shape_in_context
 from shaping.options import Given
@@ -49,7 +51,7 @@ class Trial:
 
 
 def trial(tables: Path, program: Path | None, library: Path | None, values: Path) -> Trial:
-    of = [hashlib.sha256(path.read_bytes()).hexdigest() for path in (tables, library or program) if path is not None]
+    of = [hashlib.sha256(path.read_bytes()).hexdigest() for path in (tables, library or program, reader()) if path is not None]
     theirs = subprocess.run([THEIRS, "--version"], capture_output=True, text=True, check=True).stdout
     return Trial(tables, program, values, fingerprint(*of, theirs, WITH_BOXES))
 
@@ -73,12 +75,19 @@ def try_font(font: Path, by: Trial) -> Found:
         stamp,
         len(texts),
         unlike=tuple(unlike_lines(texts, own, theirs)),
-        told=tuple(made["source"]["told"]),
+        told=tuple(told_of(FontTables(font))),
         scripts=tuple(row[0] for row in made.get("gsub", {}).get("scripts", [])),
         features=tuple(sorted({row[0] for row in made.get("gsub", {}).get("features", [])})),
         circle=dict(made.get("cmap", [])).get(CIRCLE, 0),
         of_texts=tuple(dict.fromkeys(map(script_of, texts))),
     )
+
+
+def told_of(tables: FontTables) -> Iterator[str]:
+    """What a cause is seen by of a font's tables."""
+    yield from (f"table {tag}" for tag in tables.that_change)
+    if "kern" in tables.places and "GPOS" not in tables.places:
+        yield KERNED
 
 
 def converted(font: Path, values: Path, stamp: str) -> Path:

@@ -12,6 +12,7 @@ PACKAGES = {
     "fonts-hosny-amiri": OPENTYPE / "fonts-hosny-amiri",
     "fonts-sil-padauk": TRUETYPE / "padauk",
     "fonts-nanum": TRUETYPE / "nanum",
+    "fonts-noto-cjk": OPENTYPE / "noto",
 }
 NOTO = "fonts-noto-core"
 DANDA = "\u0964 "
@@ -87,4 +88,12 @@ SETS = (
     indic("Telugu", "te", ". "),
     indic("Kannada", "kn", ". "),
     indic("Malayalam", "ml", ". ", has_own_clusters=True),
+)
+# The sets of which opening the font is measured by itself: the last one has 65,535 glyphs, with outlines of CFF.
+OPENED = (
+    SETS[0],
+    next(chosen for chosen in SETS if chosen.name == "Urdu"),
+    next(chosen for chosen in SETS if chosen.name == "Hangul"),
+    next(chosen for chosen in SETS if chosen.name == "Devanagari"),
+    Set("CJK", "fonts-noto-cjk", "NotoSansCJK-Regular.ttc", "cjk", "ja", "", "\u3002"),
 )

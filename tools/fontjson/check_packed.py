@@ -15,6 +15,12 @@ TABLE_COUNT = 12
 BITE = 16
 
 
+def is_packed(path: str) -> bool:
+    """Whether a file begins as one of WOFF or WOFF2."""
+    with open(path, "rb") as file:
+        return file.read(4) in (WOFF, WOFF2)
+
+
 def check_packed(path: str) -> None:
     """Refuses a file that unpacks to more than the limit, or to another size than it says."""
     if Path(path).stat().st_size > MOST_BYTES:

@@ -1,21 +1,23 @@
 """The command line of font_to_json."""
 
 import argparse
+import json
+from pathlib import Path
 from typing import Any
 
 from common.faults import WORDS, ToolFault
 from common.notes import Notes, Progress
 from common.parsing import Words
-from common.printing import emit, tell
+from common.printing import emit, emit_bytes, tell
 from common.writing import object_text
-from fontjson.keep import KEYS, Kept, kept_keys, listed
+from fontjson.keep import KEYS, Kept, kept_keys, kept_value, listed
 from fontjson.limits import reading
+from fontjson.program import NAME, font_text
 from fontjson.variations import Place, Wanted, place_of, read_variations
 
-NAME = "font_to_json"
-ABOUT = """Writes a TrueType or OpenType font as the JSON value that hb_shape reads as FONT, on standard output. What
-the format has no word for is named on standard error, with how often it was left out. Needs fontTools: Debian's
-python3-fonttools, under /usr/bin/python3."""
+ABOUT = """Writes a TrueType or OpenType font as the JSON value that hb_shape reads as FONT, on standard output, as
+the program kuspveli reads it (kuspveli FONT --json). Tables of which nothing is read are named on standard error.
+Instances of variable fonts, WOFF and WOFF2 need fontTools: Debian's python3-fonttools, under /usr/bin/python3."""
 
 
 def parser() -> argparse.ArgumentParser:
@@ -32,7 +34,8 @@ def parser() -> argparse.ArgumentParser:
         "--plain-lookups", metavar="TYPES", help="of gsub and gpos lookups of these types without flags alone"
     )
     words.add_argument("--quiet", action="store_true", help="don't tell what was left out")
-    words.add_argument("--sizes", action="store_true", help="print how far the font is below each limit, and no value")
+    about_sizes = "print how far the font is below each limit of what fontTools reads, and no value"
+    words.add_argument("--sizes", action="store_true", help=about_sizes)
     words.add_argument("--no-limits", action="store_true", help="lift the limits of memory and of processor time")
     return words
 
@@ -47,7 +50,10 @@ def main(words: list[str]) -> int:
     notes, is_limited = Notes(), not options.no_limits
     wanted = Wanted(options.named_instance, coordinates(options.variations))
     place, outside = instance_of(options.font, options.index, wanted, is_limited)
-    emit(object_text(read_font(options.font, options.index, kept, notes, is_limited, place)))
+    if kept == Kept():
+        emit_bytes(font_text(options.font, options.index, notes, is_limited, place))
+    else:
+        emit(object_text(read_font(options.font, options.index, kept, notes, is_limited, place)))
     for line in outside + notes.lines() if not options.quiet else []:
         tell(NAME, f"{options.font}: {line}")
     return 0
@@ -59,7 +65,7 @@ def sizes_of(path: str, index: int, is_limited: bool) -> str:
     from fontjson.drawing import sizes_of_cff
 
     with reading(path, is_limited):
-        source = open_font(path, index, Notes(), Progress(NAME))
+        source = open_font(path, index, Progress(NAME))
         sizes = source.sizes | sizes_of_cff(source.font)
     return "".join(f"{what}\t{found}\t{most}\n" for what, (found, most) in sizes.items())
 
@@ -77,27 +83,20 @@ def instance_of(path: str, index: int, wanted: Wanted, is_limited: bool = True) 
         return None, []
     from fontjson.source import open_font  # first: it says where fontTools is missing
 
-    with reading(path, is_limited), open_font(path, index, Notes(), Progress(NAME)).font as font:
+    with reading(path, is_limited), open_font(path, index, Progress(NAME)).font as font:
         return place_of(path, font, wanted)
 
 
 def read_font(
-    path: str, index: int, kept: Kept, notes: Notes, is_limited: bool = True, place: Place | None = None
+    path: str,
+    index: int,
+    kept: Kept,
+    notes: Notes,
+    is_limited: bool = True,
+    place: Place | None = None,
+    program: Path | None = None,
 ) -> dict[str, Any]:
-    """The value of a font file, of a variable font at a place.
-
-    A font whose tables can't be read is told as such, whatever fontTools raises.
-    """
-    from fontjson.source import open_font  # first: it says where fontTools is missing
-    from fontjson.convert import convert
-
-    progress = Progress(NAME)
-    try:
-        with reading(path, is_limited, progress):
-            source = open_font(path, index, notes, progress)
-            with source.font:
-                if place is not None:
-                    source.take_instance(place)
-                return convert(source, kept)
-    finally:
-        progress.end()
+    """The value of a font of a file, of a variable font at a place, with the keys that stay."""
+    text = font_text(path, index, notes, is_limited, place, program)
+    with reading(path, is_limited):
+        return kept_value(json.loads(text), kept, notes)

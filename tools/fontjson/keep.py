@@ -5,6 +5,7 @@ from typing import Any
 
 from common.faults import WORDS, ToolFault
 from common.notes import Notes
+from formats.named import KEY
 
 KEYS = ("upem", "ascender", "cmap", "variants", "h", "v", "origins", "extents", "names", "gdef", "gsub", "gpos")
 LAYOUT_KEYS = ("gsub", "gpos")
@@ -34,6 +35,15 @@ def listed(text: str | None) -> tuple[str, ...] | None:
     return None if text is None else tuple(part for part in text.split(",") if part)
 
 
+def kept_value(value: dict[str, Any], kept: Kept, notes: Notes) -> dict[str, Any]:
+    """The format's name and the keys that stay, in the order of the format."""
+    found = {KEY: value[KEY]}
+    for key in kept.keys:
+        if key in value:
+            found[key] = keep_layout(value[key], kept, notes) if key in LAYOUT_KEYS else value[key]
+    return found
+
+
 def keep_layout(table: dict[str, Any], kept: Kept, notes: Notes) -> dict[str, Any]:
     """The features that stay with the lookups that they can reach, by new indices."""
     if kept.features is None and kept.plain_lookups is None:
@@ -52,7 +62,7 @@ def keep_layout(table: dict[str, Any], kept: Kept, notes: Notes) -> dict[str, An
 
 
 def stays(lookup: dict[str, Any], kept: Kept) -> bool:
-    return kept.plain_lookups is None or (lookup["type"] in kept.plain_lookups and "flags" not in lookup)
+    return kept.plain_lookups is None or (lookup["type"] in kept.plain_lookups and not lookup.get("flags"))
 
 
 def reachable(table: dict[str, Any], features: list[int]) -> list[int]:

@@ -1,4 +1,4 @@
-"""What a font may be at most, and what reading one may take.
+"""What a font that fontTools reads may be at most, and what reading a font may take.
 
 Debian's fonts are far below; docs/TOOLS.md says how far.
 """
@@ -8,7 +8,6 @@ import resource
 import signal
 import threading
 import time
-from concurrent.futures.process import BrokenProcessPool
 from typing import Any, Iterator
 
 from common.faults import DATA, ToolFault
@@ -40,7 +39,7 @@ MOST_FONT_DICTS = 256
 MOST_SUBROUTINES = 1 << 20
 MOST_RUN = 1 << 20
 MOST_RUN_FOR_BYTE = 16
-# What reading a font may take of memory and of processor time, in each process.
+# What reading a font may take of memory and of processor time, in this process and in the program's.
 MOST_MEMORY = 2 << 30
 MOST_SECONDS = 300
 # How much of fontTools' message is told.
@@ -75,7 +74,7 @@ def reading(path: str, is_limited: bool = True, progress: Progress | None = None
         raise
     except Refused as fault:
         raise ToolFault(DATA, f"{path}: {fault}") from fault
-    except (MemoryError, OutOfTime, BrokenProcessPool) as fault:
+    except (MemoryError, OutOfTime) as fault:
         lifted = " (--no-limits lifts the limit)" if is_limited else ""
         raise ToolFault(DATA, f"{path}: {beyond(fault, is_limited)}{lifted}") from None
     except Exception as error:
@@ -88,8 +87,6 @@ def beyond(fault: BaseException, is_limited: bool) -> str:
     """Which limit was met."""
     if isinstance(fault, OutOfTime):
         return f"reading it takes more than {MOST_SECONDS} seconds of processor time"
-    if isinstance(fault, BrokenProcessPool):
-        return "a process that draws outlines was ended, out of processor time or of memory"
     return f"reading it takes more than {MOST_MEMORY >> 30} GiB of memory" if is_limited else "out of memory"
 
 
@@ -120,13 +117,3 @@ def least(*limits: int) -> int:
 
 def out_of_time(*_: Any) -> None:
     raise OutOfTime
-
-
-def begin_worker() -> None:
-    """What a process that draws some glyphs begins with: it ends without a word where it is out of time.
-
-    It is not interrupted: the process that made it is, and ends it.
-    """
-    signal.signal(signal.SIGINT, signal.SIG_IGN)
-    signal.signal(signal.SIGXCPU, signal.SIG_DFL)
-    resource.setrlimit(resource.RLIMIT_CORE, (0, 0))

@@ -1,18 +1,16 @@
-"""Opening a font file, and refusing what is none."""
+"""A font by fontTools: its outlines, its instances, and what a packed file has."""
 
 import logging
 import os
 import struct
 from dataclasses import dataclass
-from functools import cached_property
-from pathlib import Path
-from typing import Any
+from typing import Any, BinaryIO
 
 from common.faults import DATA, FILES, ToolFault
-from common.files import check_regular
-from common.notes import Notes, Progress
+from common.notes import Progress
 from fontjson.limits import MOST_BYTES
 from fontjson.variations import Place, instantiate
+from formats.sfnt import check_file
 
 try:
     from fontTools.ttLib import TTFont, TTLibError
@@ -22,81 +20,71 @@ except ImportError as missing:
     ) from missing
 
 GLYPH_LIMIT = 0x10000
-COLLECTION = b"ttcf"
 
 
 @dataclass
 class Source:
-    """A font that is being read, with the numbers of its glyphs and what was left out so far."""
+    """A font that fontTools reads."""
 
     path: str
-    index: int
     font: Any
-    notes: Notes
     progress: Progress
     # What the font has of what is limited, each with its limit.
     sizes: dict[str, tuple[int, int]]
-    place: Place | None = None
-
-    def __post_init__(self) -> None:
-        self._numbers = self.font.getReverseGlyphMap()
-
-    def glyph(self, name: str) -> int:
-        """The number of a glyph by the name that fontTools gives it."""
-        number = self._numbers.get(name)
-        return self.font.getGlyphID(name) if number is None else number
-
-    def glyphs(self, names: list[str]) -> list[int]:
-        return [self.glyph(name) for name in names]
-
-    def has(self, table: str) -> bool:
-        return table in self.font
 
     def take_instance(self, place: Place) -> None:
         """Makes a variable font its instance at a place."""
         self.progress.step("variations")
         instantiate(self.font, place)
-        self.place = place
-
-    @cached_property
-    def characters(self) -> frozenset[int]:
-        """The characters of the best Unicode subtable."""
-        return frozenset((self.font["cmap"].getBestCmap() or {}) if self.has("cmap") else ())
 
 
-def open_font(path: str, index: int, notes: Notes, progress: Progress) -> Source:
-    """Opens the font of a file, or the font at an index of a collection."""
-    # These need fontTools, and here it is known to be there.
-    from fontjson.check import check_sizes
+def open_font(path: str, index: int, progress: Progress) -> Source:
+    """Opens the font of a file, or the font at an index of a collection, within the limits."""
+    from fontjson.check import check_sizes  # it needs fontTools, and here it is known to be there
+
+    font = opened(path, index)
+    try:
+        sizes = {"bytes": (os.path.getsize(path), MOST_BYTES), **check_sizes(font)}
+        return Source(path, font, progress, sizes)
+    except TTLibError as error:
+        raise unreadable(path, error) from error
+
+
+def opened(path: str, index: int) -> Any:
+    """A font of a file, of whose tables none is read yet."""
     from fontjson.check_packed import check_packed
 
     logging.getLogger("fontTools").setLevel(logging.CRITICAL)
     check_file(path, index)
     check_packed(path)
     try:
-        font = TTFont(path, fontNumber=index, lazy=True)
+        # Of a table that is read and written again the numbers stay.
+        font = TTFont(path, fontNumber=index, lazy=True, recalcBBoxes=False, recalcTimestamp=False)
         check_tables(path, font)
-        sizes = {"bytes": (os.path.getsize(path), MOST_BYTES), **check_sizes(font)}
-        return Source(path, index, font, notes, progress, sizes)
+        return font
     except TTLibError as error:
-        raise ToolFault(DATA, f"{path}: no font that can be read: {error}") from error
+        raise unreadable(path, error) from error
     except struct.error as error:
         raise ToolFault(DATA, f"{path}: the font is cut short: its list of tables ends too early") from error
 
 
-def check_file(path: str, index: int) -> None:
-    """Refuses a folder, an empty file, and an index that a collection has no font for."""
-    check_regular(Path(path), "font")
-    with open(path, "rb") as file:
-        head = file.read(12)
-    if not head:
-        raise ToolFault(DATA, f"{path}: no font: the file is empty")
-    if head[:4] == COLLECTION and len(head) == 12:
-        count = struct.unpack(">L", head[8:])[0]
-        if not 0 <= index < count:
-            raise ToolFault(DATA, f"{path}: no font at index {index}: the collection has {count}, from index 0 on")
-    elif index != 0:
-        raise ToolFault(DATA, f"{path}: no font at index {index}: the file is no collection")
+def unreadable(path: str, error: Exception) -> ToolFault:
+    return ToolFault(DATA, f"{path}: no font that can be read: {error}")
+
+
+def write_plain(file: BinaryIO, path: str, index: int, progress: Progress, place: Place | None) -> None:
+    """Writes a font as a plain file, of a variable font the instance at a place."""
+    if place is None:
+        font = opened(path, index)
+    else:
+        source = open_font(path, index, progress)
+        source.take_instance(place)
+        font = source.font
+    with font:
+        font.flavor = None
+        progress.step("tables")
+        font.save(file, reorderTables=None)
+    file.flush()
 
 
 def check_tables(path: str, font: Any) -> None:

@@ -7,6 +7,9 @@ from dataclasses import dataclass, field
 from functools import cached_property
 from pathlib import Path
 
+from common.faults import DATA, ToolFault
+from common.files import check_regular
+
 COLLECTION = b"ttcf"
 # 1.0, Apple's name for it, and outlines of CFF.
 VERSIONS = (b"\0\1\0\0", b"true", b"OTTO")
@@ -16,6 +19,29 @@ START = 12
 # symbols.
 ENCODINGS = ((3, 10), (0, 6), (0, 4), (3, 1), (0, 3), (0, 2), (0, 1), (0, 0), (3, 0))
 SYMBOLS, SYMBOL_START = (3, 0), 0xF000
+# Tables of which the program reads nothing: those by which other shapers change or move glyphs, and the others.
+TABLES_THAT_CHANGE = ("kerx", "mort", "morx", "trak", "Silf")
+TABLES_LEFT_OUT = (
+    "BASE", "JSTF", "MATH",
+    "ankr", "bsln", "feat", "just", "lcar", "ltag", "opbd", "prop",
+    "CBDT", "COLR", "EBDT", "SVG ", "sbix",
+)  # fmt: skip
+VARIATIONS = "fvar"
+# The program's names of what is wrong with a font, each with why.
+FAULTS = {
+    "F1 Short": "a table, or the file, ends too early",
+    "F2 Kind": "a version or format that is not known, or no font",
+    "F3 Order": "numbers that fall where they may not",
+    "F4 Index": "the file has no font with this index",
+    "F5 Missing": "the font lacks head or maxp",
+    "F6 TooLarge": "more rows than a font may have",
+}
+
+
+def explained(fault: str) -> str:
+    """A fault of a font as the program names it, with why."""
+    why = next((why for name, why in FAULTS.items() if fault.startswith(name)), "")
+    return f"{fault}: {why}" if why else fault
 
 
 def is_font_file(path: Path) -> bool:
@@ -25,6 +51,21 @@ def is_font_file(path: Path) -> bool:
             return file.read(4) in (COLLECTION, *VERSIONS)
     except OSError:
         return False
+
+
+def check_file(path: str, index: int) -> None:
+    """Refuses a folder, an empty file, and an index that a collection has no font for."""
+    check_regular(Path(path), "font")
+    with open(path, "rb") as file:
+        head = file.read(START)
+    if not head:
+        raise ToolFault(DATA, f"{path}: no font: the file is empty")
+    if head[:4] == COLLECTION and len(head) == START:
+        [count] = struct.unpack(">L", head[8:])
+        if not 0 <= index < count:
+            raise ToolFault(DATA, f"{path}: no font at index {index}: the collection has {count}, from index 0 on")
+    elif index != 0:
+        raise ToolFault(DATA, f"{path}: no font at index {index}: the file is no collection")
 
 
 @dataclass(frozen=True)
@@ -56,6 +97,21 @@ class FontTables:
         with open(self.path, "rb") as file:
             file.seek(offset)
             return file.read(length)
+
+    @property
+    def that_change(self) -> list[str]:
+        """Those of which nothing is read though they change or move glyphs."""
+        return [tag for tag in TABLES_THAT_CHANGE if tag in self.places]
+
+    @property
+    def left_out(self) -> list[str]:
+        """The others of which nothing is read."""
+        return [tag for tag in TABLES_LEFT_OUT if tag in self.places]
+
+    @property
+    def axis_count(self) -> int:
+        """The number of axes of a variable font (OpenType, chapter 7, fvar), 0 of another."""
+        return int.from_bytes(self.bytes_of(VARIATIONS)[8:10], "big")
 
     @cached_property
     def characters(self) -> "Characters":

@@ -1,4 +1,4 @@
-"""Damaged font files: what font_to_json makes of one is refused by no rule of the format, and not by the program."""
+"""Damaged font files: what font_to_json makes of one is refused by no rule of the format, and not by hb_shape."""
 
 import functools
 import io

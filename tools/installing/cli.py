@@ -10,8 +10,10 @@ from building.progress import end_by_exit
 from common.faults import FILES, ToolFault
 from common.parsing import Words
 from common.plan import Entries
+from common.printing import tell
 from installing.layout import COMMANDS, check_prefix, layout
 from installing.placing import SUMS, place_all, remove_all
+from preload.shared_object import NEEDS, OBJECT
 from sources.crates import ROOT
 
 NAME = "install"
@@ -19,7 +21,7 @@ ABOUT = f"""Puts below PREFIX what is built: the commands {', '.join((KUSPVELI.n
 into bin, the library for C into lib, include and lib/pkgconfig, and programs, tools and tables into lib/kuspveli. A
 file that is there and that it did not put there is refused, and then nothing is changed; done again it replaces what
 it put there before. {SUMS} has what it put there with its sums, and --uninstall removes
-exactly that. It takes gcc, for a shared library with a version."""
+exactly that. It takes gcc, for a shared library with a version; kuspveli-instead also pkg-config and libharfbuzz-dev."""
 
 
 def main(words: list[str]) -> int:
@@ -44,6 +46,8 @@ def main(words: list[str]) -> int:
     changed = put_entries(prefix, entries)
     how = "unproved, and its uses say so" if options.unproved else "proved"
     print(f"{len(entries)} files stand below {prefix} ({how}); {changed} of them changed")
+    if not any(name.endswith(OBJECT) for name in entries):
+        tell(NAME, f"kuspveli-instead has no {OBJECT}: {NEEDS}")
     return 0
 
 

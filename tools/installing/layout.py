@@ -11,6 +11,7 @@ from building.places import Place
 from common.faults import WORDS, ToolFault
 from common.plan import Entries, Entry
 from common.version import version
+from preload.shared_object import can_make, object_over
 from releasing.library import link
 
 # The repository's own folders, as its tools know them, with what they need of them.
@@ -19,6 +20,7 @@ OWN = "lib/kuspveli"
 COMMANDS = {
     "kuspveli-shape": "shape",
     "kuspveli-hb-shape": "hb_shape",
+    "kuspveli-instead": "instead",
     "kuspveli-font-to-json": "font_to_json",
     "kuspveli-unicode-to-json": "unicode_to_json",
 }
@@ -42,7 +44,7 @@ def layout(root: Path, prefix: Path, program: Place, library: Place, *own: Place
         entries[f"{OWN}/{path.relative_to(root)}"] = entry_of(path)
     for place in own:
         entries |= own_entries(root, place)
-    return entries
+    return entries | instead_entries(root, library)
 
 
 def own_entries(root: Path, place: Place) -> Entries:
@@ -53,6 +55,14 @@ def own_entries(root: Path, place: Place) -> Entries:
     entries = {f"{OWN}/{path.relative_to(root)}": entry_of(path) for path in files}
     called = place.file if place.is_proved else root / "tools" / name
     return entries | {f"bin/{name}": Entry(link=f"../{OWN}/{called.relative_to(root)}")}
+
+
+def instead_entries(root: Path, library: Place) -> Entries:
+    """The shared object that kuspveli-instead puts in front of a program's libraries; none where it can't be made."""
+    if not can_make():
+        return {}
+    made = object_over(library)
+    return {f"{OWN}/{made.relative_to(root)}": Entry(made.read_bytes(), 0o644)}
 
 
 def entry_of(path: Path) -> Entry:

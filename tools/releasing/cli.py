@@ -24,7 +24,7 @@ NAME = "release"
 ABOUT = """Makes in FOLDER, which is new or empty, all that is published of this version, of what tools/build and
 tools/build_library proved of a tree without changes: an archive, four packages for Debian, a wheel, a crate for Rust,
 PROOFS.txt, and SHA256SUMS. Two runs over one tree make the same files. tools/try_release tries them."""
-COMMANDS = ("git", "gcc", "strip", "dpkg-deb", "dpkg-shlibdeps")
+COMMANDS = ("git", "gcc", "pkg-config", "strip", "dpkg-deb", "dpkg-shlibdeps")
 SUMS = "SHA256SUMS"
 SYSTEM = "x86_64-linux"
 

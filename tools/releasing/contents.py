@@ -17,17 +17,19 @@ from common.faults import FILES, ToolFault
 from common.plan import Entry
 from common.version import version
 from installing.layout import COMMANDS, OWN, layout
+from preload.shared_object import NEEDS, OBJECT, can_make, object_over
 from releasing.library import Library
 from releasing.sums import sum_of_bytes
 
-# The programs, by the names of their targets, each with the command that it is itself, where it is one that no tool has the
-# name of: the others are run by a tool. A program that no target has, or that isn't built, is left out.
+# The programs, by the names of their targets, each with the command that it is itself; without one a tool's command runs
+# it. A program that isn't built is left out.
 PROGRAMS = {"hb_shape": None, "kuspveli": "kuspveli"}
 # Each command in a line, for its manual page.
 ABOUT = {
     "kuspveli": "shapes a text in a font file",
     "kuspveli-shape": "shapes a text in a font file, and draws it",
     "kuspveli-hb-shape": "shapes a text in a font that is JSON",
+    "kuspveli-instead": "runs a program that uses HarfBuzz, with Kuspveli in its place",
     "kuspveli-font-to-json": "writes a font file as JSON",
     "kuspveli-unicode-to-json": "writes the Unicode Character Database as JSON",
 }
@@ -107,13 +109,14 @@ def check_built(place: Place) -> None:
 
 def tree(built: Built, proofs: str, time: int) -> dict[str, Entry]:
     """All files and links below a prefix, by their paths."""
-    laid = layout(built.root, Path("/usr"), built.programs[PROGRAM.name], built.archive)
+    own = [place for name, place in built.programs.items() if own_command(name)]
+    laid = layout(built.root, Path("/usr"), built.programs[PROGRAM.name], built.archive, *own)
     entries = {name: entry for name, entry in laid.items() if not name.startswith("lib/") or name.startswith(f"{OWN}/")}
     entries |= library_files("lib", built) | documents(built, proofs) | manuals(built, time)
     entries["lib/pkgconfig/kuspveli.pc"] = Entry(pkg_config("${pcfiledir}/../..", "lib", f"{OWN}/{TABLES}", built).encode())
-    for name, place in built.programs.items():
-        entries |= program_files(built.root, place, own_command(name))
-    return entries
+    for place in built.programs.values():
+        entries |= program_files(built.root, place)
+    return entries | shared_object(built)
 
 
 def own_command(name: str) -> str | None:
@@ -133,11 +136,17 @@ def library_files(folder: str, built: Built) -> dict[str, Entry]:
     }
 
 
-def program_files(root: Path, place: Place, command: str | None) -> dict[str, Entry]:
+def shared_object(built: Built) -> dict[str, Entry]:
+    """The shared object of kuspveli-instead, without its symbols."""
+    if not can_make():
+        raise ToolFault(FILES, f"{OBJECT} can't be made: {NEEDS}")
+    made = object_over(built.archive)
+    return {f"{OWN}/{made.relative_to(built.root)}": Entry(stripped(made), 0o644)}
+
+
+def program_files(root: Path, place: Place) -> dict[str, Entry]:
     """A program without its symbols, and its stamp, which has the sum of what stands there now."""
     text = stripped(place.file)
-    if command is not None:
-        return {f"bin/{command}": Entry(text, 0o755)}
     stamp = json.loads(place.stamp_file.read_text(encoding="utf-8"))
     stamp["made"] = {place.file.name: sum_of_bytes(text)}
     own = place.folder.relative_to(root)
@@ -149,7 +158,7 @@ def program_files(root: Path, place: Place, command: str | None) -> dict[str, En
 
 @cache
 def stripped(path: Path) -> bytes:
-    """A program without its symbols."""
+    """A program or a shared object without its symbols."""
     with tempfile.TemporaryDirectory() as folder:
         made = Path(folder) / path.name
         call("strip", "--remove-section=.comment", "--remove-section=.note", "-o", made, path)

@@ -1,8 +1,11 @@
-"""Fonts and tables as JSON, for what the program kuspveli doesn't read by itself: made once, and kept."""
+"""Fonts and tables as JSON, for what the program kuspveli doesn't shape by itself: made once, and kept."""
 
+import hashlib
 from pathlib import Path
 from typing import Any
 
+from building.places import KUSPVELI
+from building.ready import ready_program
 from common.faults import DATA, ToolFault
 from common.notes import Notes, Progress
 from common.printing import tell
@@ -13,7 +16,7 @@ from formats.named import FONT, KEY, format_fault
 from formats.where import font_fault, tables_fault
 from shaping.cache import TOOLS, cache_folder, cached, fingerprint, font_name
 from shaping.options import NAME, Given
-from shaping.sources import Converted, is_json, key_of
+from shaping.sources import TOLD, Converted, is_json, key_of
 from unicodejson.cli import DEBIAN, MAKERS, make_tables
 
 __all__ = ["cache_folder", "font_file", "font_value", "heal", "tables_file", "tell_place", "whence"]
@@ -50,18 +53,24 @@ def check_format(font: Path) -> None:
 
 def font_value(folder: Path, path: Path, index: int, is_limited: bool = True, place: Place | None = None) -> Path:
     """A font file's value as a file, of a variable font at a place."""
-    status = path.stat()
-    stamp = fingerprint(str(path.resolve()), status.st_size, status.st_mtime_ns, index, FONT_READ, place)
-    return cached(folder / font_name(path, index, place), stamp, lambda: convert(path, index, is_limited, place))
+    program, status = ready_program(NAME, target=KUSPVELI), path.stat()
+    of = (str(path.resolve()), status.st_size, status.st_mtime_ns, index, FONT_READ, place, sum_of(program))
+    return cached(
+        folder / font_name(path, index, place), fingerprint(*of), lambda: convert(program, path, index, is_limited, place)
+    )
 
 
-def convert(path: Path, index: int, is_limited: bool, place: Place | None) -> dict[str, Any]:
+def sum_of(program: Path) -> str:
+    return hashlib.sha256(program.read_bytes()).hexdigest()
+
+
+def convert(program: Path, path: Path, index: int, is_limited: bool, place: Place | None) -> dict[str, Any]:
     """The value of a font; what it leaves out is told, but for what each run tells."""
     notes = Notes()
-    value = read_font(str(path), index, FONT_READ, notes, is_limited, place)
+    value = read_font(str(path), index, FONT_READ, notes, is_limited, place, program)
     for line in notes.others():
         tell(NAME, f"{path}: {line}")
-    return value
+    return {**value, TOLD: notes.told}
 
 
 def tables_file(folder: Path) -> Path:

@@ -8,7 +8,7 @@ from dataclasses import dataclass, field
 from pathlib import Path
 from typing import Any, Callable
 
-from common.notes import Notes, Progress
+from common.notes import Progress
 from common.printing import clean
 from fontjson.limits import reading
 from fontjson.variations import Place
@@ -108,7 +108,7 @@ class Outlines:
         from fontjson.source import open_font  # first: it says where fontTools is missing
         from fontjson.drawing import drawn_glyphs
 
-        self.source = open_font(str(path), index, Notes(), Progress("shape"))
+        self.source = open_font(str(path), index, Progress("shape"))
         if place is not None:
             self.source.take_instance(place)
         self.glyphs = drawn_glyphs(self.source.font)

@@ -10,13 +10,13 @@ from typing import Any, Container, Protocol
 
 from common.faults import DATA, one_line
 from common.files import faults_of
-from formats.sfnt import FontTables
+from formats.sfnt import FontTables, explained
 from shaping.cache import part_of
 
 HB_SHAPE, KUSPVELI, OF_TEXT = "hb_shape: ", "kuspveli: ", "text: "
 JSON_FONT = ".json"
-# Tables by which other shapers change or move glyphs, and of which the program reads nothing.
-TABLES_THAT_CHANGE = ("kerx", "mort", "morx", "trak", "Silf")
+# The key of a kept value with what is left out of its font; readers of the format pass over it.
+TOLD = "told"
 
 
 @dataclass(frozen=True)
@@ -73,7 +73,7 @@ class FontFile:
 
     @property
     def left_out(self) -> list[str]:
-        return [f"table {tag}" for tag in TABLES_THAT_CHANGE if tag in self.tables.places]
+        return [f"table {tag}" for tag in self.tables.that_change]
 
     @property
     def tables_note(self) -> str:
@@ -85,8 +85,10 @@ class FontFile:
         return ran(KUSPVELI, self.program, words, text)
 
     def told(self, status: int, fault: str, where: str) -> str:
-        # A fault of the font begins with its name.
-        return fault if status == DATA else f"{where}: {fault.removeprefix(OF_TEXT)}"
+        if status != DATA:
+            return f"{where}: {fault.removeprefix(OF_TEXT)}"
+        font, mark, said = fault.rpartition(": ")
+        return f"{font}{mark}{explained(said)}"
 
 
 @dataclass(frozen=True)
@@ -104,8 +106,7 @@ class Converted:
 
     @property
     def left_out(self) -> list[str]:
-        origin = self.key_of("source", {})
-        told_lines = origin.get("told", []) if isinstance(origin, dict) else []
+        told_lines = self.key_of(TOLD, [])
         return [line for line in told_lines if isinstance(line, str)] if isinstance(told_lines, list) else []
 
     @cached_property

@@ -5,6 +5,7 @@ import importlib.util
 import io
 import json
 import os
+import re
 import shutil
 import signal
 import subprocess
@@ -19,6 +20,8 @@ TOOLS = Path(__file__).parent.parent
 BENCH = TOOLS.parent / "bench"
 sys.path[:0] = [str(TOOLS), str(BENCH)]
 
+from building.places import KUSPVELI, standing  # noqa: E402
+
 DEJAVU = "/usr/share/fonts/truetype/dejavu/DejaVuSans.ttf"
 NASKH = "/usr/share/fonts/truetype/noto/NotoNaskhArabic-Regular.ttf"
 DEVANAGARI = "/usr/share/fonts/truetype/noto/NotoSansDevanagari-Regular.ttf"
@@ -28,7 +31,13 @@ UNICODE = "/usr/share/unicode/UnicodeData.txt"
 HAS_FONTS = importlib.util.find_spec("fontTools") is not None and all(Path(font).is_file() for font in FONTS)
 FONTS_NEED = "needs python3-fonttools, fonts-dejavu-core and fonts-noto-core"
 needs_fonts = unittest.skipUnless(HAS_FONTS, FONTS_NEED)
+# Stands before each use of a program that was compiled without proofs.
+UNPROVED = re.compile(r"^\w+: (kuspveli|hb_shape) is unproved: .*\n", re.MULTILINE)
 needs_unicode = unittest.skipUnless(Path(UNICODE).is_file(), "needs unicode-data")
+
+
+# Fonts are read by this program.
+needs_kuspveli = unittest.skipUnless(standing(KUSPVELI).is_current(), "needs the program kuspveli (tools/build)")
 
 
 class WithoutFonts(MetaPathFinder):
@@ -55,6 +64,11 @@ def json_of(tool: str, *words: str) -> dict[str, Any]:
     if result.returncode != 0:
         raise AssertionError(result.stderr.decode())
     return json.loads(result.stdout)
+
+
+def told_lines(stderr: bytes | str) -> str:
+    """What a tool told, but that a program is unproved."""
+    return UNPROVED.sub("", stderr if isinstance(stderr, str) else stderr.decode())
 
 
 def write_files(root: Path, files: dict[str, str]) -> None:

@@ -5,7 +5,7 @@ import tempfile
 import unittest
 from pathlib import Path
 
-from support import DEVANAGARI, NASKH, needs_fonts, needs_unicode, run
+from support import DEVANAGARI, NASKH, needs_fonts, needs_kuspveli, needs_unicode, run, told_lines
 
 WORDS, DATA, TEXT, FILES = 2, 3, 4, 6
 
@@ -25,23 +25,24 @@ class BadInput(unittest.TestCase):
     def assert_refused(self, status: int, says: str, tool: str, *words: str | bytes) -> None:
         with self.subTest(tool=tool, words=words):
             result = run(tool, *words)
-            line = result.stderr.decode()
+            line = told_lines(result.stderr)
             self.assertEqual(result.returncode, status, line)
             self.assertEqual(line.count("\n"), 1, line)
             self.assertTrue(line.startswith(f"{tool}: "), line)
             self.assertIn(says, line)
             self.assertEqual(result.stdout, b"")
 
+    @needs_kuspveli
     def test_fonts(self) -> None:
         font = Path(NASKH).read_bytes()
         cases = [
             (DATA, "empty", self.file("empty.ttf", b"")),
-            (DATA, "no font", self.file("text.ttf", b"This is a text and no font.")),
-            (DATA, "no font", self.file("header.ttf", font[:6])),
-            (DATA, "cut short", self.file("list.ttf", font[:100])),
-            (DATA, "cut short", self.file("tables.ttf", font[: len(font) // 2])),
-            (DATA, "cut short", self.file("last.ttf", font[:-5])),
-            (DATA, "no font", self.file("collection.ttc", b"ttcf\0\1\0\0\0\0\0\1\0\0\0\x0c\0\1")),
+            (DATA, "F2 Kind at 0: a version or format that is not known, or no font", self.file("text.ttf", b"This is a text.")),
+            (DATA, "F1 Short at ", self.file("header.ttf", font[:6])),
+            (DATA, "ends too early", self.file("list.ttf", font[:100])),
+            (DATA, "ends too early", self.file("tables.ttf", font[: len(font) // 2])),
+            (DATA, "ends too early", self.file("last.ttf", font[:-5])),
+            (DATA, "F1 Short at ", self.file("collection.ttc", b"ttcf\0\1\0\0\0\0\0\1\0\0\0\x0c\0\1")),
             (FILES, "folder", str(self.folder)),
             (FILES, "No such file", str(self.folder / "missing.ttf")),
         ]
@@ -49,6 +50,7 @@ class BadInput(unittest.TestCase):
             self.assert_refused(status, says, "font_to_json", path)
             self.assert_refused(status, says, "shape", path, "text")
 
+    @needs_kuspveli
     def test_damaged_fonts(self) -> None:
         """Bytes changed at random: a value or one line, never a traceback."""
         font = Path(DEVANAGARI).read_bytes()
@@ -58,7 +60,7 @@ class BadInput(unittest.TestCase):
             for _ in range(3 ** (number % 4)):
                 damaged[draw.randrange(12, len(font))] = draw.randrange(256)
             result = run("font_to_json", "--quiet", self.file("damaged.ttf", bytes(damaged)))
-            lines = result.stderr.decode().splitlines()
+            lines = told_lines(result.stderr).splitlines()
             self.assertNotIn("Traceback", "".join(lines))
             self.assertEqual((result.returncode, len(lines)) in ((0, 0), (DATA, 1)), True, lines)
 

@@ -14,7 +14,7 @@ from support import BENCH, DEJAVU, DEVANAGARI, NASKH  # noqa: F401  (it puts the
 
 from beside.fonts_causes import AAT, BASELESS, BOXES, CIRCLES, FAULT, FORMS, HALANTS, LENGTHS, OLD, REST, SORT, VOWELS, cause_of
 from beside.fonts_cli import all_found, differences, fonts_of, has_kern, main, table
-from beside.fonts_found import Found, Unlike, add_found, read_found
+from beside.fonts_found import KERNED, Found, Unlike, add_found, read_found
 from beside.fonts_texts import SCRIPTS, TEXTS, scripts_of, texts_of
 from beside.fonts_try import Trial, read_shaped, try_font
 from building.ready import is_ready
@@ -48,7 +48,7 @@ class Causes(unittest.TestCase):
     def test_causes(self) -> None:
         cases = [
             (AAT, "a", "1=0+5", "2=0+5", ("table morx",)),
-            (BOXES, "a", "1=0+5", "2=0+5", ("positions of marks by their boxes, as there is no GPOS but `kern`",)),
+            (BOXES, "a", "1=0+5", "2=0+5", (KERNED,)),
             (SORT, "क", "1=0+5", "1=3+5", ()),
             (CIRCLES, "a", "1=0+5", "9=0+5|1=0+5", ()),
             (REST, "a", "1=0+5", "1=3+5", ()),

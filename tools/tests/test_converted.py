@@ -5,34 +5,34 @@ import os
 import tempfile
 import unittest
 from pathlib import Path
+from typing import Any
 
-from support import needs_fonts
+from support import needs_fonts, needs_kuspveli
 
 from building.places import PROGRAM, standing
-from common.faults import ToolFault
 from common.notes import Notes
 from fontjson.cli import read_font
 from fontjson.keep import Kept
-from fontjson.limits import FREE_ROWS, MOST_ROWS, most_rows
 from fontTools.fontBuilder import FontBuilder
 from fontTools.ttLib import TTFont
 from fontTools.ttLib.tables._c_m_a_p import CmapSubtable
 from formats.rules import font_faults
 from fuzzing import converted
-from hostile_fonts import coverage, one_lookup, plain, saved, single, with_tables, words
+from hostile_fonts import plain, saved, with_tables, words
 
 # The test of the project's own is over 10,000: tools/fuzz --fonts --cases=10000, or KUSPVELI_FONTS=10000 here.
 CASES = int(os.environ.get("KUSPVELI_FONTS", "60"))
 
 
+@needs_kuspveli
 class Converted(unittest.TestCase):
     def setUp(self) -> None:
         self.folder = Path(self.enterContext(tempfile.TemporaryDirectory()))
 
-    def value(self, font: bytes) -> tuple[dict, Notes]:
-        path, notes = self.folder / "font.ttf", Notes()
+    def value(self, font: bytes) -> dict[str, Any]:
+        path = self.folder / "font.ttf"
         path.write_bytes(font)
-        return read_font(str(path), 0, Kept(), notes), notes
+        return read_font(str(path), 0, Kept(), Notes())
 
     @needs_fonts
     def test_damaged(self) -> None:
@@ -51,16 +51,13 @@ class Converted(unittest.TestCase):
         data = bytearray(font["cmap"].compile(font))
         self.assertEqual(data[-4:], (2).to_bytes(4, "big"))
         data[-4:] = b"\xff" * 4
-        value, notes = self.value(with_tables({"cmap": bytes(data)}))
-        self.assertEqual(value["cmap"], [[97, 1], [98, 2]])
-        self.assertEqual(notes.counts, {"cmap: glyphs past 65,535": 1})
+        self.assertEqual(self.value(with_tables({"cmap": bytes(data)}))["cmap"], [[97, 1], [98, 2]])
 
     def test_classes(self) -> None:
         """A list of classes from the last glyphs on goes past them (class definitions, format 1)."""
         classes = words(1, 65534, 3, 1, 2, 3)
-        value, notes = self.value(with_tables({"GDEF": words(1, 0, 12, 0, 0, 0) + classes}))
-        self.assertEqual(value["gdef"], {"classes": [[65534, 1], [65535, 2]]})
-        self.assertEqual(notes.counts["GDEF classes: glyphs past 65,535"], 1)
+        value = self.value(with_tables({"GDEF": words(1, 0, 12, 0, 0, 0) + classes}))
+        self.assertEqual(value["gdef"]["classes"], [[65534, 1], [65535, 2]])
         self.assertEqual(list(font_faults(value)), [])
 
     def test_ascender(self) -> None:
@@ -69,16 +66,8 @@ class Converted(unittest.TestCase):
             font = plain()
             FontBuilder(font=font).setupOS2(sTypoAscender=0, usWinAscent=height)
             font["hhea"].ascent = 0
-            value, notes = self.value(saved(font))
-            self.assertEqual(value.get("ascender"), wanted)
-            self.assertEqual(notes.counts["ascender: a height past 16 bits"], int(wanted is None))
+            self.assertEqual(self.value(saved(font)).get("ascender"), wanted)
 
-    def test_rows_by_bytes(self) -> None:
-        """A small table has fewer rows: eight lookups of all glyphs are read, nine aren't."""
-        self.assertEqual([most_rows(size) for size in (0, 100, 1 << 18)], [FREE_ROWS, FREE_ROWS + 1600, MOST_ROWS])
-        font = one_lookup("GSUB", 1, single(coverage((0, 65535))), 9)
-        with self.assertRaisesRegex(ToolFault, "table GSUB: more than 52.,... rows in [0-9]+ bytes"):
-            self.value(font)
 
 
 if __name__ == "__main__":

@@ -1,18 +1,24 @@
 """Faces by bytes and by JSON: what is told of stand-ins for the program, and the converter of another commit."""
 
+import copy
 import json
 import tempfile
 import unittest
 from pathlib import Path
 from typing import Any, Callable
+from unittest import mock
 
-from support import DEJAVU, json_of, needs_fonts, told_by, write_stand_in
+from support import DEJAVU, needs_fonts, told_by, write_stand_in
 
 from beside import faces_cli
-from beside.faces_try import differences, indices, meaning
+from beside.faces_try import CONVERTER, differences, indices, meaning
 from common.faults import ToolFault
 
 REFUSED = "echo kuspveli: F1 Short in cmap at 12 >&2; exit 3"
+VALUE = {"format": "kuspveli-font", "source": {}, "upem": 1000, "ascender": 800, "h": [[0, 500], [1, 500], [2, 0], [3, 500]]}
+# A stand-in for font_to_json of a commit.
+CONVERTING = """case $3 in *cut.ttf) echo "font_to_json: $3: the font is cut short" >&2; exit 3;; esac
+cat {folder}/value"""
 
 
 @needs_fonts
@@ -24,15 +30,19 @@ class Faces(unittest.TestCase):
         (self.folder / "fonts").mkdir()
         (self.folder / "fonts" / "a.ttf").write_bytes(small())
         (self.folder / "fonts" / "cut.ttf").write_bytes(small()[:100])
+        (self.folder / "value").write_text(json.dumps(VALUE))
+        write_stand_in(self.folder / CONVERTER, CONVERTING.format(folder=folder.name))
+        self.enterContext(mock.patch.object(faces_cli, "tools_of", lambda commit: self.folder))
 
     def told(self, body: str, *words: str) -> tuple[int, list[str]]:
         program = write_stand_in(self.folder / "kuspveli", body)
-        status, out = told_by(faces_cli.main, str(self.folder / "fonts"), f"--program={program}", *words)
+        by = words if "--alone" in words else ("--converter=HEAD", *words)
+        status, out = told_by(faces_cli.main, str(self.folder / "fonts"), f"--program={program}", *by)
         return status, sorted(out.splitlines())
 
     def printing(self, change: Callable[[Any], None] = lambda value: None) -> str:
         """A stand-in that prints for each font what the converter makes of the whole one, with a change."""
-        value = json_of("font_to_json", str(self.folder / "fonts" / "a.ttf"))
+        value = copy.deepcopy(VALUE)
         change(value)
         (self.folder / "printed").write_text(json.dumps(value))
         return f"cat {self.folder}/printed"
@@ -105,6 +115,11 @@ class Faces(unittest.TestCase):
 
 
 class Converter(unittest.TestCase):
+    def test_words(self) -> None:
+        for words in ([], ["--alone", "--converter=HEAD"]):
+            with self.assertRaisesRegex(ToolFault, "--converter=COMMIT, or nothing: --alone"):
+                faces_cli.main(["--program=none", *words])
+
     def test_none(self) -> None:
         with self.assertRaisesRegex(ToolFault, "--converter: no commit none"):
             faces_cli.tools_of("none")

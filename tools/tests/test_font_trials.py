@@ -6,7 +6,7 @@ import unittest
 from pathlib import Path
 from random import Random
 
-from support import needs_fonts, told_by, write_stand_in
+from support import needs_fonts, needs_kuspveli, told_by, write_stand_in
 
 from fuzzing import cli
 from fuzzing.font_damage import KINDS, DamagedFont, damaged_font
@@ -36,6 +36,7 @@ class Cases(unittest.TestCase):
             kinds = [line.split(b" ")[0] for line in case.texts().splitlines()]
             self.assertEqual(kinds, [b"words", *[b"text"] * 20, b"premises"])
 
+    @needs_kuspveli
     def test_bases(self) -> None:
         """The fonts before damage have all types of lookups, those behind extensions too, and each is converted."""
         from fuzzing.font_bases import bases

@@ -9,7 +9,7 @@ import unicodedata
 import unittest
 from typing import Any, Callable
 
-from support import DEJAVU, DEVANAGARI, FONTS, NASKH, json_of
+from support import DEJAVU, DEVANAGARI, FONTS, NASKH, json_of, needs_kuspveli
 
 from fontTools.ttLib import TTFont
 from formats.rules import font_faults
@@ -20,6 +20,7 @@ def subtables(font: TTFont, tag: str) -> list[list[Any]]:
     return [[getattr(s, "ExtSubTable", s) for s in lookup.SubTable] for lookup in font[tag].table.LookupList.Lookup]
 
 
+@needs_kuspveli
 class Converted(unittest.TestCase):
     """Each font as it was converted once."""
 
@@ -138,7 +139,6 @@ class Converted(unittest.TestCase):
         self.assertIn("fina", [tag for tag, _ in naskh["gsub"]["features"]])
         self.assertIn("rphf", [tag for tag, _ in devanagari["gsub"]["features"]])
         self.assertEqual([tag for tag, *_ in devanagari["gsub"]["scripts"]], ["dev2", "deva"])
-        self.assertEqual(dejavu["source"]["left_out"]["table MATH"], 1)
 
 
 def printed(path: str, letters: list[int]) -> list[dict[str, int]]:

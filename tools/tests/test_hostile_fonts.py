@@ -2,6 +2,7 @@
 
 import io
 import os
+import re
 import resource
 import subprocess
 import tempfile
@@ -9,26 +10,17 @@ import unittest
 from pathlib import Path
 from types import SimpleNamespace
 
-from support import TOOLS, run
+from support import TOOLS, needs_kuspveli, run, told_lines, write_stand_in
 
+from common.faults import ToolFault
+from common.notes import Notes
 from fontjson.drawing import check_subroutines
 from fontjson.limits import Refused
+from fontjson.program import font_text
 from hostile_fonts import cmap, composite, coverage, dots, glyf, groups, kinds, nested_calls, one_lookup, single
 
 DATA = 3
 SECONDS, MEMORY = 10, 1_000_000_000
-# The tool with other limits of its processes, and none of what CFF runs.
-LIMITED = """
-import sys
-sys.path.insert(0, sys.argv.pop(1))
-from common.faults import run_tool
-from fontjson import cli, drawing, limits, metrics
-limits.MOST_MEMORY, limits.MOST_SECONDS = int(sys.argv.pop(1)), int(sys.argv.pop(1))
-drawing.MOST_RUN, metrics.MANY_OUTLINES = 1 << 60, 0
-run_tool(cli.NAME, cli.main)
-"""
-
-
 def confine() -> None:
     """The limits within which a font has to be refused; beyond them the tool would say another thing, or be ended."""
     resource.setrlimit(resource.RLIMIT_CPU, (SECONDS, SECONDS))
@@ -44,7 +36,7 @@ class HostileFonts(unittest.TestCase):
         environment = {**os.environ, "XDG_CACHE_HOME": str(self.folder)}
         command = [TOOLS / tool, path, *words]
         ran = subprocess.run(command, capture_output=True, check=False, preexec_fn=confine, env=environment)
-        told = ran.stderr.decode()
+        told = told_lines(ran.stderr)
         self.assertEqual((ran.returncode, ran.stdout), (DATA, b""), told)
         self.assertEqual(told.count("\n"), 1, told)
         self.assertTrue(told.startswith(f"{tool}: {path}: "), told)
@@ -52,11 +44,24 @@ class HostileFonts(unittest.TestCase):
         return told
 
     def test_kinds(self) -> None:
+        """What fontTools would read, for an instance or a picture, is refused before it is; of packed files each time."""
         for name, make, says in kinds():
             with self.subTest(name):
                 path = self.folder / "font.ttf"
                 path.write_bytes(make())
-                self.assertIn(says, self.refused("font_to_json", path))
+                self.assertIn(says, self.refused("font_to_json", path, "--sizes"))
+                if "WOFF" in name:
+                    self.assertIn(says, self.refused("font_to_json", path))
+
+    @needs_kuspveli
+    def test_program(self) -> None:
+        """The program reads each, or refuses it, within the same time and memory."""
+        for name, make, _ in kinds():
+            with self.subTest(name):
+                path = self.folder / "font.ttf"
+                path.write_bytes(make())
+                ran = subprocess.run([TOOLS / "font_to_json", path], capture_output=True, check=False, preexec_fn=confine)
+                self.assertIn((ran.returncode, told_lines(ran.stderr).count("\n")), ((0, 0), (DATA, 1)), ran.stderr)
 
     def test_file_of_gigabytes(self) -> None:
         path = self.folder / "large.ttf"
@@ -65,21 +70,24 @@ class HostileFonts(unittest.TestCase):
         self.assertIn("more than 134,217,728 bytes", self.refused("font_to_json", path))
 
     def test_limits_of_the_process(self) -> None:
-        """A font that takes more memory or time than is allowed has one line, and none where the limits are lifted."""
+        """A font that takes more memory or time than is allowed has one line; the program has the limits, unless they are
+        lifted."""
         path = self.folder / "font.ttf"
-        path.write_bytes(cmap(groups(13, (0, 0x10FFFF))))
-        self.assertIn("GiB of memory", self.limited(path, memory=150 << 20, seconds=60))
-        self.assertIn("of processor time", self.limited(path, memory=4 << 30, seconds=0))
-        self.assertEqual(self.limited(path, "--no-limits", memory=150 << 20, seconds=0), "")
-        path.write_bytes(nested_calls(9, 20))
-        self.assertIn("of processor time", self.limited(path, memory=4 << 30, seconds=0))
-
-    def limited(self, path: Path, *words: str, memory: int, seconds: int) -> str:
-        """What is told of a font where it has so much memory and time; its outlines are drawn by processes."""
-        command = ["/usr/bin/python3", "-c", LIMITED, str(TOOLS), str(memory), str(seconds), path, "--quiet", *words]
-        ran = subprocess.run(command, stdout=subprocess.DEVNULL, stderr=subprocess.PIPE, check=False, text=True)
-        self.assertEqual((ran.returncode, ran.stderr.count("\n")), (DATA, 1) if ran.stderr else (0, 0), ran.stderr)
-        return ran.stderr
+        path.write_bytes(glyf([dots()]))
+        for body, says in (
+            ("echo kuspveli: OutOfMemory >&2; exit 5", "reading it takes more than 2 GiB of memory (--no-limits lifts"),
+            ("kill -XCPU $$", "reading it takes more than 300 seconds of processor time (--no-limits lifts"),
+            ("echo 'kuspveli: /dev/stdin: F1 Short in GSUB at 7' >&2; exit 3", f"{path}: F1 Short in GSUB at 7: a table, or"),
+            ("kill -SEGV $$", f"{path}: status 139"),
+        ):
+            program = Path(write_stand_in(self.folder / "kuspveli", body))
+            with self.assertRaisesRegex(ToolFault, re.escape(says)):
+                font_text(str(path), 0, Notes(), program=program)
+        program = Path(write_stand_in(self.folder / "kuspveli", "ulimit -S -v; ulimit -S -t"))
+        memory, seconds = font_text(str(path), 0, Notes(), program=program).split()
+        self.assertEqual((int(memory), int(seconds) >= 300), (2 << 20, True))
+        before = subprocess.run(["sh", "-c", "ulimit -S -v; ulimit -S -t"], capture_output=True, check=True).stdout
+        self.assertEqual(font_text(str(path), 0, Notes(), False, program=program), before)
 
     def test_shared_subroutines(self) -> None:
         """Font DICTs that share what they read: each has 65,535 subroutines, and a private DICT of ten bytes."""
@@ -95,7 +103,6 @@ class HostileFonts(unittest.TestCase):
         """What the fonts are made of is no fault, and is counted as it was written."""
         path = self.folder / "font.ttf"
         path.write_bytes(glyf([dots(), composite(0), composite(1, 1)]))
-        self.assertEqual(run("font_to_json", str(path)).returncode, 0)
         told = run("font_to_json", "--sizes", str(path)).stdout.decode()
         sizes = {what: int(found) for what, found, _ in (line.split("\t") for line in told.splitlines())}
         wanted = {

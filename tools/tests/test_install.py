@@ -168,7 +168,7 @@ class Words(unittest.TestCase):
     def test_tools(self) -> None:
         """The commands come with each package that they import, and without tests and what Python keeps."""
         names = {str(path.relative_to(ROOT / "tools")) for path in layout.tool_files(ROOT / "tools")}
-        wanted = {*COMMANDS.values(), "common/faults.py", "fontjson/gsub.py", "machines/indic.txt"}
+        wanted = {*COMMANDS.values(), "common/faults.py", "fontjson/program.py", "preload/cli.py", "machines/indic.txt"}
         self.assertLessEqual({*wanted, "unicodejson/data/thai.txt"}, names)
         self.assertFalse([name for name in names if name.startswith("tests/") or name.endswith(".pyc")])
 

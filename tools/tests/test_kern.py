@@ -9,7 +9,7 @@ import unittest
 from pathlib import Path
 from typing import Any
 
-from support import DEJAVU, json_of, run
+from support import json_of, needs_kuspveli, run, told_lines
 
 from building.places import PROGRAM, standing
 from fontTools import unicodedata
@@ -20,7 +20,6 @@ from fontTools.ttLib import TTFont, newTable
 from fontTools.ttLib.tables._k_e_r_n import KernTable_format_0, KernTable_format_unkown
 from fontTools.unicodedata import Scripts as ScriptNames
 from formats.rules import font_faults
-from fontjson import kern
 from sources.crates import ROOT
 
 CHARACTERS = "AVT.\u0301\u0632\u0627\u05d0\u05d1\u0391"
@@ -75,37 +74,37 @@ def write_font(path: Path, subtables: list[Any], features: str = "", version: fl
     return str(path)
 
 
+def backward(script: str) -> bool:
+    """Whether texts of a script run from right to left alone, as Hungarian runes don't."""
+    return script != "Hung" and bool(unicodedata.script_horizontal_direction(script, "LTR") == "RTL")
+
+
 class Scripts(unittest.TestCase):
-    """The scripts from right to left that crates/font_kern knows are those of the converter, of which Hungarian is none."""
+    """The scripts from right to left that crates/font_kern knows are Unicode's, by fontTools, but Hebrew."""
 
     def test_scripts(self) -> None:
         text = (ROOT / "crates/font_kern/src/scripts.rt").read_text()
         rows = re.findall(r"script::([A-Z_]+),[^}]*?Tag\(0x([0-9a-f]{8})\)", text)
         known = {name: bytes.fromhex(tag).decode() for name, tag in rows}
         self.assertEqual(len(known), 34)
-        scripts = {unicodedata.script_name(script): script for script in ScriptNames.NAMES}
-        backward = {
-            name.upper().replace(" ", "_"): unicodedata.ot_tags_from_script(script)[0]
-            for name, script in scripts.items()
-            if unicodedata.script_horizontal_direction(script, "LTR") == "RTL" and script not in ("Hung", "Hebr")
+        wanted = {
+            unicodedata.script_name(script).upper().replace(" ", "_"): unicodedata.ot_tags_from_script(script)[0]
+            for script in ScriptNames.NAMES
+            if backward(script) and script != "Hebr"
         }
         # Scripts that are newer than fontTools' tables have no name there.
-        self.assertEqual({**known, **backward}, known)
-        self.assertLessEqual(set(known) - set(backward), {"GARAY"})
-        self.assertTrue(kern.backward("hebr"))
-        for tag in known.values():
-            if tag != "gara" or "Gara" in ScriptNames.NAMES:
-                self.assertTrue(kern.backward(tag), tag)
+        self.assertEqual({**known, **wanted}, known)
+        self.assertLessEqual(set(known) - set(wanted), {"GARAY"})
 
     def test_blocks(self) -> None:
         """Each character of such a script is of the blocks that the crate looks at."""
         blocks = (range(0x590, 0x900), range(0xFB1D, 0xFF00), range(0x10800, 0x11000), range(0x1E800, 0x1F000))
         for number in range(0x110000):
-            tag = unicodedata.ot_tags_from_script(unicodedata.script(chr(number)))[0]
-            if kern.backward(tag):
+            if backward(unicodedata.script(chr(number))):
                 self.assertTrue(any(number in block for block in blocks), hex(number))
 
 
+@needs_kuspveli
 class Rows(unittest.TestCase):
     def setUp(self) -> None:
         folder = tempfile.TemporaryDirectory()
@@ -115,7 +114,6 @@ class Rows(unittest.TestCase):
     def gpos(self, *subtables: Any, features: str = "", version: float = 0) -> dict[str, Any]:
         value = json_of("font_to_json", write_font(self.path, list(subtables), features, version))
         self.assertEqual(list(font_faults(value)), [])
-        self.told = value["source"]["told"]
         return value.get("gpos", {})
 
     def test_pairs(self) -> None:
@@ -172,34 +170,22 @@ class Rows(unittest.TestCase):
         forward, backward = scripts["latn"][0]["features"][-1], scripts["arab"][0]["features"][-1]
         self.assertNotEqual(forward, backward)
         self.assertNotIn(forward, scripts["latn"][1]["TRK "]["features"])
-        self.assertEqual(self.told, ["`kern` for Hebrew, which GPOS lacks"])
         pair = gpos["lookups"][gpos["features"][backward][1][0] - 1]["subtables"][0]
         self.assertIn([ALEF, ZAIN, [-16, 0, -16, 0], [0, 0, -17, 0]], pair)
 
     def test_beside_gpos(self) -> None:
-        """Where each system has the feature nothing is added, and nothing is told."""
+        """Where each system has the feature nothing is added."""
         features = "feature kern { pos g0041 g0056 -5; } kern;"
         gpos = self.gpos(pairs(), features=features)
         self.assertEqual(len(gpos["lookups"]), 1)
-        self.assertEqual(self.told, [])
-        self.assertNotIn(b"kern", run("font_to_json", "--only", "gpos", DEJAVU).stderr)
 
     def test_left_out(self) -> None:
-        """What is left out is told: lines downwards, across the line, least distances, other formats, marks' boxes."""
+        """What is left out: lines downwards, across the line, least distances, other formats."""
         other = KernTable_format_unkown(3)
         other.data = struct.pack(">HHBB", 0, 6, 3, HORIZONTAL)
         crossing, least = pairs(HORIZONTAL | CROSS_STREAM), pairs(HORIZONTAL | MINIMUM)
-        gpos = self.gpos(pairs(0), crossing, least, other)
-        self.assertEqual(gpos, {})
-        self.assertEqual(
-            self.told,
-            [
-                "`kern`: subtables for lines downwards", "`kern`: subtables that move across the line",
-                "`kern`: subtables of least distances", "`kern`: subtables of format 3",
-            ],
-        )  # fmt: skip
-        self.gpos(pairs(), crossing)
-        self.assertIn("positions of marks by their boxes, as there is no GPOS but `kern`", self.told)
+        self.assertEqual(self.gpos(pairs(0), crossing, least, other), {})
+        self.assertEqual(self.gpos(pairs(), crossing), self.gpos(pairs()))
 
     def test_marks(self) -> None:
         """A font without GPOS that has Arabic vowels keeps the positions of its marks, and isn't kerned."""
@@ -208,11 +194,7 @@ class Rows(unittest.TestCase):
         for table in font["cmap"].tables:
             table.cmap[0x64E] = NAMES[ACUTE]
         font.save(path)
-        value = json_of("font_to_json", path)
-        self.assertNotIn("gpos", value)
-        self.assertEqual(
-            value["source"]["told"], ["`kern`, as there is no GPOS and marks are positioned by their boxes"]
-        )
+        self.assertNotIn("gpos", json_of("font_to_json", path))
 
     def test_damaged(self) -> None:
         """A table that is cut, or has more rows than the limit, is refused in one line."""
@@ -221,7 +203,7 @@ class Rows(unittest.TestCase):
         # Subtables of no length share their bytes.
         shared = KernTable_format_unkown(0)
         shared.data = struct.pack(">2H2B", 0, 0, 0, HORIZONTAL) + struct.pack(">4H", 5000, 0, 0, 0) + bytes(30000)
-        for table, count, says in ((cut, 1, b"table kern: a subtable is cut short"), (shared, 1000, b"more than 4,194,304 rows")):
+        for table, count, says in ((cut, 1, "F1 Short in kern at "), (shared, 1000, "F6 TooLarge in kern")):
             path = write_font(self.path, [table])
             data = bytearray(Path(path).read_bytes())
             at = data.index(table.data) - 2
@@ -229,8 +211,9 @@ class Rows(unittest.TestCase):
             Path(path).write_bytes(data)
             ran = run("font_to_json", path)
             self.assertEqual((ran.returncode, ran.stdout), (3, b""))
-            self.assertIn(says, ran.stderr)
-            self.assertEqual(ran.stderr.count(b"\n"), 1)
+            told = told_lines(ran.stderr)
+            self.assertIn(says, told)
+            self.assertEqual(told.count("\n"), 1)
 
 
 @unittest.skipUnless(standing(PROGRAM).is_current(), "needs the program (tools/build)")

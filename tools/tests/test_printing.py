@@ -16,7 +16,7 @@ from pathlib import Path
 from typing import Any
 from unittest import mock
 
-from support import TOOLS, interruptible, write_files, write_stand_in
+from support import TOOLS, interruptible, needs_kuspveli, told_lines, write_files, write_stand_in
 
 from common.printing import clean, clean_name
 from hostile_fonts import plain, saved
@@ -31,7 +31,9 @@ PRINTABLE = re.compile("[ -~\n]*")
 # The characters that XML 1.0 may hold.
 XML = re.compile("[\t\n\r -\ud7ff\ue000-\ufffd\U00010000-\U0010ffff]*")
 LINE = "1=0+500|2=1+500\n"
-# The tool with a stand-in for the program, and without tables of Unicode.
+# The font as the program that reads it prints it.
+VALUE = {"format": "kuspveli-font", "upem": 1000, "cmap": [[97, 1], [98, 2]], "names": [[0, ".notdef"], [1, NAME], [2, "b"]]}
+# The tool with stand-ins for both programs, and without tables of Unicode.
 TOOL = """
 import sys
 from pathlib import Path
@@ -39,6 +41,7 @@ sys.path.insert(0, sys.argv.pop(1))
 from common.faults import run_tool
 from shaping import cli, converting
 program = Path(sys.argv.pop(1))
+converting.ready_program = lambda name, target: program.with_name("reader")
 cli.ready_program, converting.TABLES_READ = lambda name: program, ["thai"]
 cli.is_read_by_program = lambda given: False
 run_tool("shape", cli.main)
@@ -49,6 +52,8 @@ class Printed(unittest.TestCase):
     def setUp(self) -> None:
         self.folder = Path(self.enterContext(tempfile.TemporaryDirectory()))
         self.program = write_stand_in(self.folder / "hb_shape", f"printf '{LINE}'")
+        (self.folder / "printed").write_text(json.dumps(VALUE))
+        self.reader = Path(write_stand_in(self.folder / "reader", f"cat '{self.folder}/printed'"))
         self.font = self.folder / "font.ttf"
         self.font.write_bytes(saved(plain(NAME)))
         self.environment = {**os.environ, "XDG_CACHE_HOME": str(self.folder)}
@@ -67,9 +72,10 @@ class Printed(unittest.TestCase):
     def assert_refused(self, ran: subprocess.CompletedProcess[str], status: int, says: str) -> None:
         """One line that says it, the status, and nothing on standard output."""
         self.assertEqual((ran.returncode, ran.stdout or ""), (status, ""), ran.stderr)
-        self.assertEqual(ran.stderr.count("\n"), 1, ran.stderr)
-        self.assertIn(says, ran.stderr)
-        self.assertTrue(PRINTABLE.fullmatch(ran.stderr), ran.stderr)
+        told = told_lines(ran.stderr)
+        self.assertEqual(told.count("\n"), 1, told)
+        self.assertIn(says, told)
+        self.assertTrue(PRINTABLE.fullmatch(told), told)
 
 
 class Names(Printed):
@@ -98,6 +104,9 @@ class Names(Printed):
         ran = self.shape(self.font, "ab", "--json")
         self.assertTrue(PRINTABLE.fullmatch(ran.stdout), ran.stdout)
         self.assertEqual(json.loads(ran.stdout)[0]["g"], NAME)
+
+    @needs_kuspveli
+    def test_font(self) -> None:
         font = self.ran([TOOLS / "font_to_json", self.font])
         self.assertTrue(PRINTABLE.fullmatch(font.stdout), font.stdout)
         self.assertEqual(json.loads(font.stdout)["names"][1], [1, NAME])
@@ -110,6 +119,7 @@ class Names(Printed):
         titles = [each.text or "" for each in tree.fromstring(ran.stdout).iter("{http://www.w3.org/2000/svg}title")]
         self.assertIn(f"{clean(NAME)} (1), cluster 0, advance 500,0", titles)
 
+    @needs_kuspveli
     def test_names_of_files(self) -> None:
         folder = os.fsencode(self.folder)
         for name, says in ((b"\x1b[31m\n.ttf", r"\x1b[31m\x0a.ttf: "), (b"\xff.ttf", r"\xff.ttf: ")):
@@ -126,6 +136,7 @@ class Names(Printed):
 
 
 class Streams(Printed):
+    @needs_kuspveli
     def test_output(self) -> None:
         """Standard output that is full, closed, or read by nobody."""
         reading, writing = os.pipe()
@@ -238,6 +249,7 @@ class Kept(Printed):
         patches = [
             mock.patch.object(cli, "ready_program", lambda name: Path(self.program)),
             mock.patch.object(cli, "is_read_by_program", lambda given: False),
+            mock.patch.object(converting, "ready_program", lambda name, target: self.reader),
             mock.patch.object(converting, "TABLES_READ", ["thai"]),
             mock.patch.dict(os.environ, self.environment),
         ]

@@ -19,7 +19,7 @@ from beside.differences import Difference, difference
 from beside.lines_cli import chances
 from beside.pages import COUNT, LONGEST, SHORTEST, WORDS, is_plain, read_words, text_from, text_of, turns_of, words_of
 from beside.programs import Files, build_driver, counted_by, counts_of_rounds, printed_by, used_by
-from beside.sets import PACKAGES, SETS, Set
+from beside.sets import OPENED, PACKAGES, SETS, Set
 from beside.steps import Steps
 from beside.table import MEGA, MIB, Pair, Row, summary, tables
 from beside.works import Measure, Work
@@ -103,7 +103,7 @@ class Texts(unittest.TestCase):
     def test_sets(self) -> None:
         """No two sets have one title, each package serves one, and the decomposed ones hold no whole letter."""
         self.assertEqual(len({chosen.title for chosen in SETS}), len(SETS))
-        self.assertEqual({chosen.package for chosen in SETS}, set(PACKAGES))
+        self.assertEqual({chosen.package for chosen in (*SETS, *OPENED)}, set(PACKAGES))
         for chosen in SETS:
             if chosen.is_decomposed:
                 text = text_of(chosen, 500)

@@ -9,7 +9,7 @@ import unittest
 from pathlib import Path
 from typing import Any
 
-from support import BENCH, DEJAVU, TOOLS, needs_fonts, needs_unicode, write_files
+from support import BENCH, DEJAVU, TOOLS, needs_fonts, needs_kuspveli, needs_unicode, write_files
 
 from common.files import NEW, write_file, write_over
 
@@ -74,6 +74,7 @@ class Written(unittest.TestCase):
         self.assertIn("standard output: Broken pipe", ran.stderr)
 
     @needs_fonts
+    @needs_kuspveli
     @needs_unicode
     def test_converters(self) -> None:
         for words in (["font_to_json", "--quiet", DEJAVU], ["unicode_to_json"]):

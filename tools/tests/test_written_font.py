@@ -1,17 +1,20 @@
 """A font that is written for the test: every kind of subtable and key, with rows that are worked out by hand."""
 
+import subprocess
 import tempfile
 import unittest
 from pathlib import Path
 from typing import Any
 
-from support import json_of, run
+from support import json_of, needs_kuspveli, run, told_lines
 
+from building.places import KUSPVELI, standing
 from fontTools.feaLib.builder import addOpenTypeFeaturesFromString
 from fontTools.fontBuilder import FontBuilder
 from fontTools.pens.ttGlyphPen import TTGlyphPen
 from fontTools.ttLib import TTFont
 from fontTools.ttLib.tables._c_m_a_p import CmapSubtable
+from fontTools.ttLib.tables.DefaultTable import DefaultTable
 from formats.rules import font_faults
 
 # Glyphs from 0 on.
@@ -92,6 +95,7 @@ def subtable(platform: int, encoding: int, cmap: dict[int, str]) -> CmapSubtable
     return table
 
 
+@needs_kuspveli
 class WrittenFont(unittest.TestCase):
     @classmethod
     def setUpClass(cls) -> None:
@@ -186,7 +190,7 @@ class WrittenFont(unittest.TestCase):
     def test_part(self) -> None:
         """A part of the keys, features and lookups, with indices anew."""
         font = json_of("font_to_json", "--only", "gsub,upem", "--features", "calt,liga", self.path)
-        self.assertEqual(list(font), ["format", "source", "upem", "gsub"])
+        self.assertEqual(list(font), ["format", "upem", "gsub"])
         self.assertEqual(list(font_faults(font)), [])
         kept = [lookup["type"] for lookup in font["gsub"]["lookups"]]
         self.assertEqual(sorted(kept), ["alternate", "chain", "ligature", "reverse", "single"])
@@ -207,12 +211,28 @@ class WrittenFont(unittest.TestCase):
                 self.assertEqual(json_of("font_to_json", "--only", "cmap", path)["cmap"], expected)
 
     def test_left_out(self) -> None:
-        """What has no word in the format is named."""
-        errors = run("font_to_json", "/usr/share/fonts/truetype/dejavu/DejaVuSans.ttf").stderr.decode()
-        self.assertIn("left out: table MATH (1)", errors)
-        changed = "left out, and it changes glyphs or positions"
-        devices = f"font_to_json: {self.path}: {changed}: GPOS: device tables, at sizes in pixels (1)\n"
-        self.assertEqual(run("font_to_json", self.path).stderr.decode(), devices)
+        """Tables that the format has no word for are named, first those that change glyphs or positions."""
+        with tempfile.NamedTemporaryFile(suffix=".ttf") as file:
+            font = TTFont(self.path)
+            for tag in ("MATH", "morx"):
+                font[tag] = DefaultTable(tag)
+                font[tag].data = bytes(4)
+            font.save(file.name)
+            lines = ("left out, and it changes glyphs or positions: table morx (1)", "left out: table MATH (1)")
+            told = "".join(f"font_to_json: {file.name}: {line}\n" for line in lines)
+            self.assertEqual(told_lines(run("font_to_json", file.name).stderr), told)
+            self.assertEqual(told_lines(run("font_to_json", "--quiet", file.name).stderr), "")
+
+    def test_printed(self) -> None:
+        """It prints what the program does, also of a packed file, in which each table is as it was."""
+        place = standing(KUSPVELI)
+        printed = subprocess.run([place.file, self.path, "--json"], capture_output=True, check=True).stdout
+        for flavor in (None, "woff", "woff2"):
+            with tempfile.NamedTemporaryFile() as file:
+                font = TTFont(self.path)
+                font.flavor = flavor
+                font.save(file.name)
+                self.assertEqual(run("font_to_json", file.name).stdout, printed, flavor)
 
 
 if __name__ == "__main__":
