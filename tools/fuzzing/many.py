@@ -14,6 +14,7 @@ from building.ready import usable
 from common.faults import FILES, ToolFault
 from common.notes import Progress
 from common.printing import emit
+from fontjson.program import reader
 from fuzzing import converted, laying, traced
 
 NAME = "fuzz"
@@ -45,9 +46,11 @@ def run_traced(options: argparse.Namespace) -> int:
 
 
 def run_fonts(options: argparse.Namespace) -> int:
-    """font_to_json on damaged fonts, and the program on what it writes."""
+    """font_to_json on damaged fonts, and hb_shape on what it writes."""
     program = usable(NAME, options.program or standing(PROGRAM).file)
+    # Before there are processes, each of which would look for them.
     converted.small_fonts()
+    reader()
     return run_all(options, numbers(options), partial(converted.try_font, program, options.seed))
 
 

@@ -2,6 +2,7 @@
 
 import contextlib
 import io
+import json
 import os
 import shutil
 import subprocess
@@ -18,6 +19,7 @@ from common.version import soname, version
 from installing import cli, layout, placing
 from common.plan import Entry
 from installing.layout import COMMANDS, check_prefix, pkg_config
+from preload.shared_object import OBJECT, can_make
 from sources.crates import ROOT
 
 VERSION = version()
@@ -225,6 +227,22 @@ class Installed(unittest.TestCase):
         both = call([*shape, "لل"], **self.found).rstrip()
         initial = call([*shape, "ل", "--text-after=ل"], **self.found).rstrip()
         self.assertEqual(both.split("|")[1:], [initial])
+
+    @unittest.skipUnless(can_make() and shutil.which("hb-shape") and Path(DEJAVU).is_file(), "needs libharfbuzz-dev and hb-shape")
+    def test_instead(self) -> None:
+        """A program's texts are shaped by Kuspveli, by the installed object."""
+        [shared] = self.prefix.glob(f"lib/kuspveli/out/**/{OBJECT}")
+        self.assertEqual(shared.stat().st_mode & 0o777, 0o644)
+        words = [self.prefix / "bin" / "kuspveli-instead", "--report", "hb-shape", "--no-glyph-names", DEJAVU, "office"]
+        ran = subprocess.run(words, capture_output=True, text=True, check=True)
+        self.assertEqual(ran.stdout, "[82=0+1253|5044=1+1980|70=4+1126|72=5+1260]\n")
+        self.assertIn("instead: hb-shape: 1 of 1 texts shaped by Kuspveli, of 6 characters\n", ran.stderr)
+
+    def test_font(self) -> None:
+        """The converter's program stands beside it."""
+        font = ROOT / "crates" / "kuspveli_program" / "data" / "font.ttf"
+        value = json.loads(call([self.prefix / "bin" / "kuspveli-font-to-json", font], **self.found))
+        self.assertEqual((value["format"], value["upem"]), ("kuspveli-font", 1000))
 
     def test_away(self) -> None:
         """No installed tool names the clone: the folder may go."""

@@ -16,12 +16,13 @@ from unittest import mock
 
 from support import HAS_FONTS, write_files
 
-from building.places import LIBRARY, PROGRAM, Place
+from building.places import KUSPVELI, LIBRARY, PROGRAM, Place
 from building.tree import stamp_of
 from common.faults import ToolFault
 from common.plan import Entry
 from common.version import packed, soname, symbol_version, version
 from installing.layout import COMMANDS
+from preload.shared_object import OBJECT, can_make
 from releasing import cli, contents, debian, gates, library, python, trying
 from releasing.archives import tar_gz, zip_file
 from releasing.crate import OUTSIDE
@@ -29,9 +30,10 @@ from releasing.sources import crate_sum, read_source
 from sources.crates import ROOT
 
 VERSION = version()
-NEEDED = ("git", "gcc", "strip", "dpkg-deb", "dpkg-shlibdeps")
+NEEDED = ("git", "gcc", "pkg-config", "strip", "dpkg-deb", "dpkg-shlibdeps")
+IS_NEEDED = all(map(shutil.which, NEEDED)) and can_make()
 PACKAGES = ("libkuspveli0", "libkuspveli-dev", "kuspveli-tools", "python3-kuspveli")
-IS_BUILT = all(Place(target, False, ROOT).is_current() for target in (PROGRAM, LIBRARY))
+IS_BUILT = all(Place(target, False, ROOT).is_current() for target in (PROGRAM, KUSPVELI, LIBRARY))
 PROVED = """\
 rt: top: trying its must-fail edits (1)
 == low
@@ -262,7 +264,7 @@ def files_of(folder: Path) -> dict[str, bytes]:
     return {str(path.relative_to(folder)): path.read_bytes() for path in folder.rglob("*") if path.is_file()}
 
 
-@unittest.skipUnless(all(map(shutil.which, NEEDED)), f"needs {', '.join(NEEDED)}")
+@unittest.skipUnless(IS_NEEDED, f"needs {', '.join(NEEDED)} and libharfbuzz-dev")
 @unittest.skipUnless(IS_BUILT, "needs tools/build --unproved and tools/build_library --unproved")
 class Made(unittest.TestCase):
     """What is made of what is built here without proofs."""
@@ -321,6 +323,10 @@ class Made(unittest.TestCase):
         ran = subprocess.run(words, capture_output=True, text=True, check=True)
         self.assertEqual(ran.stdout, "1=0+500|7=1+520\n")
         self.assertIn("hb_shape is unproved", ran.stderr)
+        font = ROOT / "crates" / "kuspveli_program" / "data" / "font.ttf"
+        for command, words in (("kuspveli", [font, "fi"]), ("kuspveli-shape", [font, "fi"])):
+            ran = subprocess.run([place / "bin" / command, *words], capture_output=True, text=True, check=True)
+            self.assertEqual((ran.stdout, "kuspveli is unproved" in ran.stderr), ("f_i=0+520\n", True))
         if shutil.which("pkg-config"):
             found = {**os.environ, "PKG_CONFIG_PATH": str(place / "lib" / "pkgconfig")}
             words = ["pkg-config", "--variable=tables", "kuspveli"]
@@ -365,6 +371,10 @@ class Made(unittest.TestCase):
             made = {name: hashlib.md5(text, usedforsecurity=False).hexdigest() for name, text in files.items()}
             self.assertEqual(found, made)
             self.assertIn(f"./usr/share/doc/{package}/copyright", files)
+        self.assertIn(f"./usr/lib/kuspveli/out/unproved/{OBJECT}", self.members("kuspveli-tools_*"))
+        [path] = self.made.glob("kuspveli-tools_*")
+        fields = subprocess.run(["dpkg-deb", "-f", path, "Depends"], capture_output=True, text=True, check=True).stdout
+        self.assertIn("libharfbuzz0b", fields)
         [path] = self.made.glob("libkuspveli0_*")
         symbols = subprocess.run(["dpkg-deb", "-I", path, "symbols"], capture_output=True, text=True, check=True).stdout
         self.assertTrue(symbols.startswith(f"{soname(VERSION)} libkuspveli0 #MINVER#\n"))
@@ -384,7 +394,7 @@ class Made(unittest.TestCase):
         self.assertEqual([line.partition(":")[0] for line in ran.stdout.splitlines()], list(trying.WAYS))
 
 
-@unittest.skipUnless(all(map(shutil.which, NEEDED)), f"needs {', '.join(NEEDED)}")
+@unittest.skipUnless(IS_NEEDED, f"needs {', '.join(NEEDED)} and libharfbuzz-dev")
 @unittest.skipUnless(IS_BUILT, "needs tools/build --unproved and tools/build_library --unproved")
 class Proved(unittest.TestCase):
     """A clone in which what was compiled without proofs stands in for what was proved, with logs as rt ci writes them."""
@@ -394,7 +404,7 @@ class Proved(unittest.TestCase):
         cls.folder = Path(cls.enterClassContext(tempfile.TemporaryDirectory()))
         cls.root = cls.folder / "clone"
         subprocess.run(["git", "clone", "-q", ROOT, cls.root], check=True)
-        for target in (PROGRAM, LIBRARY):
+        for target in (PROGRAM, KUSPVELI, LIBRARY):
             cls.stand_in(Place(target, True, cls.root))
 
     @classmethod

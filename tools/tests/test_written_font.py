@@ -139,7 +139,7 @@ class WrittenFont(unittest.TestCase):
 
     def test_substitutions(self) -> None:
         lookups = self.by_type("gsub")
-        self.assertEqual(lookups["single"][0], {"type": "single", "subtables": [[[A, A_ALT]]]})
+        self.assertEqual(lookups["single"][0], {"type": "single", "flags": 0, "subtables": [[[A, A_ALT]]]})
         self.assertEqual(lookups["single"][1], {"flags": 16, "set": 0, "type": "single", "subtables": [[[C, A]]]})
         self.assertEqual(lookups["multiple"][0]["subtables"], [[[B, [B, C]]]])
         self.assertEqual(lookups["alternate"][0]["subtables"], [[[A, [B, C]]]])
