@@ -16,6 +16,7 @@ from shaping.glyphs import as_json, clean_lines, read_line, with_names
 from shaping.locales import locale_language
 from shaping.options import NAME, Given, read_words, usage
 from shaping.program import Line, Shaped, shape_texts, told
+from shaping.program_words import is_text
 from shaping.sources import Converted, FontFile, Source, is_json
 from shaping.texts import Text, Texts, lack_notes, read_texts, unshown
 
@@ -59,9 +60,10 @@ def shape_converted(texts: Texts, given: Given) -> int:
 
 def is_read_by_program(given: Given) -> bool:
     """Whether the program kuspveli reads the font file itself: not an instance of a variable font, a compressed font or
-    a value, and not where the library is needed, or limits are lifted, which the program doesn't have."""
+    a value, not a file whose name is no UTF-8, which it refuses, and not where the library is needed, or limits are
+    lifted, which the program doesn't have."""
     is_other = given.instance or "no-limits" in given.own or any(option in given.own for option in CONTEXT)
-    return not (is_other or is_json(given.font)) and is_font_file(given.font)
+    return not (is_other or is_json(given.font)) and is_text(str(given.font)) and is_font_file(given.font)
 
 
 def shape_and_show(

@@ -61,13 +61,12 @@ class Converted(unittest.TestCase):
         self.assertEqual(list(font_faults(value)), [])
 
     def test_ascender(self) -> None:
-        """Where hhea and OS/2's typographic one are 0, that of Windows is taken, which may be past 16 bits with a sign."""
-        for height, wanted in ((32767, 32767), (32768, None)):
+        """Where hhea and OS/2's typographic one are 0, that of Windows is taken, at most what fits 16 bits with a sign."""
+        for height in (32767, 32768):
             font = plain()
             FontBuilder(font=font).setupOS2(sTypoAscender=0, usWinAscent=height)
             font["hhea"].ascent = 0
-            self.assertEqual(self.value(saved(font)).get("ascender"), wanted)
-
+            self.assertEqual(self.value(saved(font))["ascender"], 32767)
 
 
 if __name__ == "__main__":

@@ -11,9 +11,9 @@ from itertools import islice
 from pathlib import Path
 from unittest import mock
 
-from support import DEJAVU, told_by  # it puts the tools and bench/ on the path
+from support import DEJAVU, told_by, write_stand_in  # it puts the tools and bench/ on the path
 
-from beside import cli, works
+from beside import cli, opening, works
 from beside.composed import composed, pieces_of
 from beside.differences import Difference, difference
 from beside.lines_cli import chances
@@ -349,24 +349,36 @@ class Running(unittest.TestCase):
         with tempfile.TemporaryDirectory() as name, cache_folder() as values:
             folder, chosen = Path(name), one_set("Latin, DejaVuSans")
             driver = build_driver(folder, standing(LIBRARY).file)
-            files = Files(chosen, NOWHERE, tables_file(values), cli.font_file(values, chosen.font), driver)
+            files = Files(chosen, NOWHERE, tables_file(values), cli.font_value(values, chosen.font, 0), driver)
             texts = [folder / f"{count}.txt" for count in (1, 50)]
             for path in texts:
                 path.write_text("office\n" * int(path.stem), encoding="utf-8")
             own, theirs = printed_by(files.rounds(0, [f"kept={texts[0]}"]))
             words = ["hb-shape", "--no-glyph-names", "--utf8-clusters", f"--text-file={texts[0]}", DEJAVU]
             self.assertEqual(([theirs], own), (printed_by(words), theirs.strip("[]")))
-            kinds = [f"kept={path}" for path in texts] + [f"{kind}={texts[0]}" for kind in ("anew", "open", "first")]
+            kinds = [f"kept={path}" for path in texts] + [f"{kind}={texts[0]}" for kind in ("anew", "open", "first", "file", "bare")]
             counted = counts_of_rounds(files.rounds(1, kinds), len(kinds), folder / "callgrind")
             for side in (0, 1):
-                one, fifty, anew, opened, first = (pair[side] for pair in counted)
+                one, fifty, anew, opened, first, by_file, bare = (pair[side] for pair in counted)
                 self.assertTrue(0 < 40 * one < fifty < 60 * one and one < anew < opened and 0.9 * opened < first)
+                self.assertTrue(one < bare <= by_file < opened if side == 0 else 0.9 * opened < bare < 1.1 * opened)
             self.assertGreater(counted[4][0], 1.2 * counted[3][0])
             times = [list(map(int, line.split())) for line in printed_by(files.rounds(3, kinds[:2]))]
             self.assertTrue(all(0 < short < long for short, long in zip(*times, strict=True)))
             for wrong in ("kept", f"never={texts[0]}", "kept=/no/text"):
                 with self.assertRaisesRegex(ToolFault, "driver ended with 1: "):
                     printed_by(files.rounds(1, [wrong]))
+
+    def test_opening(self) -> None:
+        """A font's row: its size, what the driver's two ways take, and the least of HarfBuzz's."""
+        with tempfile.TemporaryDirectory() as folder, mock.patch.object(opening, "words_of", lambda _: ["office"]):
+            driver = write_stand_in(Path(folder) / "driver", "echo 3000000 1000000; echo 2000000 900000")
+            own = Set("Own", "fonts-dejavu-core", __file__, "latin", "en")
+            lines = opening.opening_lines([own], Path(driver), 5, False, Path(folder))
+            self.assertEqual((Path(folder) / "word.txt").read_text(), "office\n")
+        size = f"{Path(__file__).stat().st_size / MIB:.2f}"
+        self.assertEqual(lines[0], "| Font | MB | ms | without boxes and names | HarfBuzz |")
+        self.assertEqual(lines[2:], [f"| {Path(__file__).stem} | {size} | 3.00 | 2.00 | 0.90 |"])
 
     @unittest.skipUnless(shutil.which("valgrind"), "needs valgrind")
     def test_counted(self) -> None:

@@ -18,7 +18,7 @@ from types import SimpleNamespace
 from typing import Callable
 from unittest import mock
 
-from support import DEJAVU, NASKH, run
+from support import DEJAVU, NASKH, needs_kuspveli, run
 
 from building.places import PROGRAM, standing
 from common.faults import ToolFault
@@ -78,6 +78,7 @@ def has_library() -> bool:
     return False
 
 
+@needs_kuspveli
 class Commands(unittest.TestCase):
     """What a stand-in for the program is given, and what is made of what it prints."""
 
@@ -97,6 +98,7 @@ class Commands(unittest.TestCase):
         patches = [
             ready,
             mock.patch.object(cli, "is_read_by_program", lambda given: False),
+            mock.patch.object(converting, "ready_program", lambda name, target: standing(target).file),
             mock.patch.object(converting, "TABLES_READ", ["thai"]),
         ]
         for patch in (*patches, mock.patch.dict(os.environ, places)):
@@ -145,7 +147,7 @@ class Commands(unittest.TestCase):
         value = json.loads(self.kept().read_text())
         self.assertEqual(list(font_faults(value)), [])
         keys = [key for key in converting.FONT_READ.keys if key in value]
-        self.assertEqual(list(value), ["cache", "format", "source", *keys, "end"])
+        self.assertEqual(list(value), ["cache", "format", *keys, "told", "end"])
         self.assertLessEqual({"cmap", "h", "gdef", "gsub", "gpos"}, set(value))
         self.assertEqual(os.listdir(self.font.parent), ["font.ttf"])
 
