@@ -1,8 +1,8 @@
 -- How runs end, by the results of what writes an answer.
-use Rattle.std.proofs.Common.{ℕ, ◌≡◌, List, Ok, Err, Result, false, refl, inr, length, sym, subst, take}
+use Rattle.std.proofs.Common.{ℕ, ◌≡◌, List, Ok, Err, Result, arith, false, refl, inr, length, sym, subst, take}
 use Rattle.std.specs.Prelude.{◌⊎◌, ⊤, Bool, Option, Some, None}
 use Rattle.std.specs.Io.KnownBytes.{Appends, Keeps}
-use Rattle.std.proofs.lemmas.List.{take-length}
+use Rattle.std.proofs.lemmas.List.{take_all}
 use Rattle.shell_readers.specs.declared.fault.RunFault.{RunFault}
 use Rattle.shell_readers.specs.Faults.{IsOfBytes}
 use Rattle.shell_run.specs.Lines.{Answer}
@@ -12,7 +12,7 @@ use Rattle.shell_font_run.specs.Program.{IsRunOf, fault_of_run, result_of}
 
 module _ (Answers : Answer → Type 0) (may_have_written : RunFault → Bool) (old new : Option (List ℕ)) where
   whole : (end : Option RunFault) → SomeBytes Answers end (Appends old new) → OfAnswer Answers (AppendsFront old new)
-  whole end (bytes, is, appended) = (record { written = bytes; fault = end }, is, (length bytes, subst (λ (bs : List ℕ). Appends old new bs) (sym (take-length bytes)) appended))
+  whole end (bytes, is, appended) = (record { written = bytes; fault = end }, is, (length bytes, subst (λ (bs : List ℕ). Appends old new bs) (sym (take_all (length bytes) bytes (omega arith))) appended))
 
   -- a run without a fault
   pub ends_well : SomeBytes Answers None (Appends old new)

@@ -1,3 +1,5 @@
+mod Endings
 mod Ends
 mod FontRuns
 mod Reading
+mod Sources

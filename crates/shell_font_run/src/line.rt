@@ -126,7 +126,6 @@ fn run_input<F: Read + Drop, O: Files<F>, W: Write>(
 }
 
 /// Shapes the bytes of a text in the bytes of a font file by the options of a command line.
-#[tactic(auto, using(crate::proofs::Ends::ends_well, crate::proofs::Ends::ends_by))]
 fn run_on<W: Write>(
     alloc: Global,
     line: &FontLine,

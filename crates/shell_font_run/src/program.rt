@@ -28,7 +28,7 @@ pub fn run_font_program<F: Read + Drop, O: Files<F>, W: Write, E: Write>(
         (W.contents out.old) (W.contents out.new) (E.contents err.old) (E.contents err.new) result }
 {
     match parse_font_options(alloc, words) {
-        Ok(FontCommand::Shaping(line)) => shape_line(alloc, &line, files, out, err),
+        Ok(FontCommand::Shaping(line)) => shape_line(alloc, line, files, out, err),
         Ok(FontCommand::Printing(name, face)) => print_named(alloc, &name, face, files, out, err),
         Ok(FontCommand::Usage) => say(USAGE, out, err),
         Ok(FontCommand::Version) => say(VERSION_LINE, out, err),
@@ -39,18 +39,22 @@ pub fn run_font_program<F: Read + Drop, O: Files<F>, W: Write, E: Write>(
 /// Shapes the text of a command line, and ends by its fault, if there is one.
 fn shape_line<F: Read + Drop, O: Files<F>, W: Write, E: Write>(
     alloc: Global,
-    line: &FontLine,
+    line: FontLine,
     files: &mut O,
     out: &mut W,
     err: &mut E,
 ) -> Ending
-    ensures { (ran : Result ⊤ FontRunFault) × DoesFont (string_bytes line.now.font) (O.bytes files.old)
+    ensures { (ran : Result ⊤ FontRunFault) × DoesFont (string_bytes line.font) (O.bytes files.old)
         (O.asked files.old) (O.asked files.new) (W.contents out.old) (W.contents out.new)
-        (RunsText line.now (O.bytes files.old) (W.contents out.old) (W.contents out.new)) ran
+        (RunsText line (O.bytes files.old) (W.contents out.old) (W.contents out.new)) ran
         × (result.fault ≡ cause_of ran) × Reports result.is_reported (E.contents err.old) (E.contents err.new)
-        (line_of (string_bytes line.now.font) ran) }
+        (line_of (string_bytes line.font) ran) }
 {
-    end_of(&line.font, run_line(alloc, line, files, out), err)
+    let ran = run_line(alloc, &line, files, out);
+    let ending = end_of(&line.font, ran, err);
+    // In one step: left to the end, each of its fields is a step of this function's proof.
+    drop(line);
+    ending
 }
 
 /// Prints the font with an index of a font file, and ends by its fault, if there is one.

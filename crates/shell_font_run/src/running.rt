@@ -1,5 +1,5 @@
 //! Shapes the bytes of a text in a font file, and writes the printed lines; or prints a font.
-ghost use Rattle.std.specs.Prelude.{◌≡◌, ◌≢◌, ◌⊎◌, Some, None, false, IfErr, OnOk, OnErr};
+ghost use Rattle.std.specs.Prelude.{◌≡◌, ◌≢◌, ◌⊎◌, Some, None, false, IfOk, IfErr, OnOk, OnErr};
 ghost use Rattle.std.specs.Io.KnownBytes.{Appends, Keeps};
 ghost use Rattle.shell_readers.specs.Faults.{IsOfBytes, IsOfRun};
 ghost use Rattle.shell_run.specs.Lines.{printed_answer, refusal};
@@ -32,7 +32,7 @@ fn parts_of(flags: SerializeFlags) -> FontParts
 /// Shapes the bytes of a text in the font with an index of a font file, over the tables that the library has, and writes
 /// the printed lines of the text, or of each of its lines: at once at the end, or in parts where lines that are refused
 /// are named.
-#[tactic(auto, using(crate::proofs::FontRuns::was_refused, crate::proofs::FontRuns::some_bytes, crate::proofs::FontRuns::of_answer))]
+#[tactic(auto, using(crate::proofs::FontRuns::was_refused))]
 pub fn run_font<W: Write>(
     alloc: Global,
     options: &Options,
