@@ -3,6 +3,8 @@
 ghost use Rattle.std.specs.Prelude.{◌≡◌, ◌≢◌, MatchBool};
 ghost use Rattle.shell_run.specs.Laws.{AnswersAreOne, EmptyTextGivesEmptyLine, TextsHaveLines};
 
+use font_bytes::fault::TableFault;
+use font_bytes::font_fault::FontFault;
 use shell_json::fault::JsonFault;
 use shell_readers::fault::RunFault;
 
@@ -30,9 +32,28 @@ pub fn law_json_faults_are_equal(left: JsonFault, right: JsonFault) -> bool
     left == right
 }
 
+/// `==` of faults of a font file holds exactly between equal ones.
+pub fn law_font_faults_are_equal(left: FontFault, right: FontFault) -> bool
+    ensures { MatchBool result (left ≡ right) (left ≢ right) }
+{
+    // By the cause, since the search takes too long over all pairs of faults at once.
+    match left.cause {
+        TableFault::Short(_) => left == right,
+        TableFault::Kind(_) => left == right,
+        TableFault::Order(_) => left == right,
+        TableFault::Index => left == right,
+        TableFault::Missing => left == right,
+        TableFault::TooLarge => left == right,
+        TableFault::OutOfMemory => left == right,
+    }
+}
+
 /// `==` of run faults holds exactly between equal ones.
 pub fn law_run_faults_are_equal(left: RunFault, right: RunFault) -> bool
     ensures { MatchBool result (left ≡ right) (left ≢ right) }
 {
-    left == right
+    match (left, right) {
+        (RunFault::Font(one), RunFault::Font(other)) => law_font_faults_are_equal(one, other),
+        _ => left == right,
+    }
 }
