@@ -1,13 +1,12 @@
 -- How runs end, by the results of what writes an answer.
-use Rattle.std.proofs.Common.{ℕ, ◌≡◌, List, Ok, Err, Result, arith, false, refl, inr, length, sym, subst, take}
-use Rattle.std.specs.Prelude.{◌⊎◌, ⊤, Bool, Option, Some, None}
+use Rattle.std.proofs.Common.{ℕ, ◌≡◌, List, Ok, Err, arith, false, refl, inr, length, sym, subst}
+use Rattle.std.specs.Prelude.{◌⊎◌, Bool, Option, Some, None}
 use Rattle.std.specs.Io.KnownBytes.{Appends, Keeps}
 use Rattle.std.proofs.lemmas.List.{take_all}
 use Rattle.shell_readers.specs.declared.fault.RunFault.{RunFault}
 use Rattle.shell_readers.specs.Faults.{IsOfBytes}
 use Rattle.shell_run.specs.Lines.{Answer}
 use Rattle.shell_run.specs.Run.{AppendsFront, OfAnswer, SomeBytes}
-use Rattle.shell_font_run.specs.declared.fault.FontRunFault.{FontRunFault}
 use Rattle.shell_font_run.specs.Program.{IsRunOf, fault_of_run, result_of}
 
 module _ (Answers : Answer → Type 0) (may_have_written : RunFault → Bool) (old new : Option (List ℕ)) where

@@ -1,7 +1,7 @@
 -- What a run over a font file gives.
-use Rattle.std.proofs.Common.{ℕ, ◌≡◌, ◌≢◌, List, [], Result, Ok, Err, refl, sym, inl, inr}
-use Rattle.std.specs.Prelude.{◌⊎◌, Option, Some, None}
-use Rattle.std.specs.Io.KnownBytes.{Appends, Keeps}
+use Rattle.std.proofs.Common.{ℕ, ◌≡◌, List, [], Ok, Err, refl, sym}
+use Rattle.std.specs.Prelude.{Option, Some}
+use Rattle.std.specs.Io.KnownBytes.{Appends}
 use Rattle.std.proofs.KnownBytes.{Appends-nil}
 use Rattle.shell_readers.specs.declared.fault.RunFault.{RunFault}
 use Rattle.shell_readers.specs.declared.options.Options.{Options}
