@@ -8,8 +8,8 @@ from typing import Any
 from common.faults import WORDS, ToolFault
 from common.notes import Notes, Progress
 from common.parsing import Words
-from common.printing import emit, emit_bytes, tell
-from common.writing import object_text
+from common.printing import emit, tell
+from common.writing import object_text, printable
 from fontjson.keep import KEYS, Kept, kept_keys, kept_value, listed
 from fontjson.limits import reading
 from fontjson.program import NAME, font_text
@@ -51,7 +51,7 @@ def main(words: list[str]) -> int:
     wanted = Wanted(options.named_instance, coordinates(options.variations))
     place, outside = instance_of(options.font, options.index, wanted, is_limited)
     if kept == Kept():
-        emit_bytes(font_text(options.font, options.index, notes, is_limited, place))
+        emit(printable(font_text(options.font, options.index, notes, is_limited, place).decode()))
     else:
         emit(object_text(read_font(options.font, options.index, kept, notes, is_limited, place)))
     for line in outside + notes.lines() if not options.quiet else []:

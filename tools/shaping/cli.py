@@ -55,7 +55,12 @@ def shape_converted(texts: Texts, given: Given) -> int:
         font = converting.font_file(folder, given, place)
         tables = converting.tables_file(folder)
         source = Converted(ready_program(NAME), tables, font, converting.whence(tables))
-        return shape_and_show(source, texts, given, place, lambda: converting.heal(folder, given, place, source))
+
+        def healed() -> Source | None:
+            # What was read of a file that was made anew isn't its.
+            return replace(source) if converting.heal(folder, given, place, source) else None
+
+        return shape_and_show(source, texts, given, place, healed)
 
 
 def is_read_by_program(given: Given) -> bool:
@@ -67,14 +72,18 @@ def is_read_by_program(given: Given) -> bool:
 
 
 def shape_and_show(
-    source: Source, texts: Texts, given: Given, place: Place | None = None, heal_files: Callable[[], bool] = bool
+    source: Source,
+    texts: Texts,
+    given: Given,
+    place: Place | None = None,
+    healed: Callable[[], Source | None] = lambda: None,
 ) -> int:
     """Shapes, draws and prints; kept files that the program refuses are made anew once."""
     if "verbose" in given.own:
         tell(NAME, source.tables_note)
     shaped = shape(source, texts, given)
-    if shaped.status == DATA and heal_files():
-        shaped = shape(source, texts, given)
+    if shaped.status == DATA and (anew := healed()) is not None:
+        source, shaped = anew, shape(anew, texts, given)
     if "verify" in given.own:
         verify(source, shaped.lines, given)
     if pictures_of(given):

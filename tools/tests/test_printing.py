@@ -30,6 +30,8 @@ SHOWN = r"\x1b\x5d0;t\x07\x1b\x5b31mx\x3d0+1\x7cy\x5d\x0d\x0a\u009b\x7f\x5c@#<>,
 PRINTABLE = re.compile("[ -~\n]*")
 # The characters that XML 1.0 may hold.
 XML = re.compile("[\t\n\r -\ud7ff\ue000-\ufffd\U00010000-\U0010ffff]*")
+READER = """[ "$(head -c 4)" = none ] && echo 'kuspveli: /dev/stdin: F2 Kind at 0' >&2 && exit 3
+cat '{}'"""
 LINE = "1=0+500|2=1+500\n"
 # The font as the program that reads it prints it.
 VALUE = {"format": "kuspveli-font", "upem": 1000, "cmap": [[97, 1], [98, 2]], "names": [[0, ".notdef"], [1, NAME], [2, "b"]]}
@@ -53,7 +55,7 @@ class Printed(unittest.TestCase):
         self.folder = Path(self.enterContext(tempfile.TemporaryDirectory()))
         self.program = write_stand_in(self.folder / "hb_shape", f"printf '{LINE}'")
         (self.folder / "printed").write_text(json.dumps(VALUE))
-        self.reader = Path(write_stand_in(self.folder / "reader", f"cat '{self.folder}/printed'"))
+        self.reader = Path(write_stand_in(self.folder / "reader", READER.format(self.folder / "printed")))
         self.font = self.folder / "font.ttf"
         self.font.write_bytes(saved(plain(NAME)))
         self.environment = {**os.environ, "XDG_CACHE_HOME": str(self.folder)}
