@@ -4,7 +4,7 @@ from functools import partial
 from typing import Any
 
 from fontTools.misc.psCharStrings import T2OutlineExtractor
-from fontTools.pens.basePen import NullPen
+from fontTools.pens.boundsPen import ControlBoundsPen
 
 from fontjson.limits import (
     MOST_CALLS,
@@ -35,7 +35,7 @@ def sizes_of_cff(font: Any) -> dict[str, tuple[int, int]]:
         return {}
     glyphs = drawn_glyphs(font)
     for name in font.getGlyphOrder():
-        glyphs[name].draw(NullPen())
+        glyphs[name].draw(ControlBoundsPen(glyphs))
     dicts, subroutines = glyphs.shared
     return {
         "CFF: font DICTs": (dicts, MOST_FONT_DICTS),

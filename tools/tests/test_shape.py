@@ -2,6 +2,7 @@
 
 import contextlib
 import errno
+import importlib
 import importlib.util
 import io
 import json
@@ -289,6 +290,8 @@ class Commands(unittest.TestCase):
     def test_no_cairo(self) -> None:
         """Without python3-cairo the fault names the package, and nothing is printed or written."""
         path = self.folder / "of.png"
+        # What is read in meanwhile would be taken away again, which parts of fontTools don't stand.
+        importlib.import_module("fontjson.check")
         with mock.patch.dict(sys.modules, {"cairo": None}), contextlib.redirect_stdout(io.StringIO()) as shown:
             with contextlib.redirect_stderr(io.StringIO()):
                 self.assertRaisesRegex(ToolFault, "apt-get install python3-cairo", self.shape, "of", f"--png={path}")
