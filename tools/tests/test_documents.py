@@ -1,8 +1,9 @@
-"""Documents that tools make: written, checked, and a part of one between two lines."""
+"""Documents: their links; those that tools make: written, checked, and a part of one between two lines."""
 
 import argparse
 import contextlib
 import io
+import re
 import tempfile
 import unittest
 from pathlib import Path
@@ -11,8 +12,29 @@ import support  # noqa: F401 (it puts the tools on the path)
 
 from common.documents import add_modes, deliver, replace_part, table_lines, wrapped
 from common.faults import ToolFault
+from sources.crates import ROOT
 
 BEGIN, END = "<!-- begins -->", "<!-- ends -->"
+DOCUMENTS = ("*.md", "docs/*.md", "bindings/*/README.md")
+
+
+def anchors(path: Path) -> set[str]:
+    """The names by which links reach the headings of a document."""
+    text = re.sub(r"^```.*?^```$", "", path.read_text(encoding="utf-8"), flags=re.MULTILINE | re.DOTALL)
+    headings = re.findall(r"^#+ (.*)$", text, re.MULTILINE)
+    return {re.sub(r"[^\w\- ]", "", heading.lower()).replace(" ", "-") for heading in headings}
+
+
+class Links(unittest.TestCase):
+    def test_links(self) -> None:
+        """Each leads to a file that is there, and to a heading of it where it names one."""
+        for path in (path for pattern in DOCUMENTS for path in sorted(ROOT.glob(pattern))):
+            for link in re.findall(r"\]\(\s*([^)\s]+)\)", path.read_text(encoding="utf-8")):
+                name, _, heading = link.partition("#")
+                leads_to = path.parent / name if name else path
+                self.assertTrue(leads_to.exists(), f"{path.name}: {link}")
+                if heading:
+                    self.assertIn(heading, anchors(leads_to), f"{path.name}: {link}")
 
 
 class Whole(unittest.TestCase):
