@@ -24,7 +24,8 @@ asked of libharfbuzz, is libharfbuzz's as before.
   --compare[=FILE]  shape by both, and write each difference; with FILE as a line of JSON for each there
 
 Its status is the program's."""
-PRELOAD, REPORT, COMPARE = "LD_PRELOAD", "KUSPVELI_REPORT", "KUSPVELI_COMPARE"
+PRELOAD, LIBRARIES = "LD_PRELOAD", "LD_LIBRARY_PATH"
+REPORT, COMPARE = "KUSPVELI_REPORT", "KUSPVELI_COMPARE"
 HELP = ("-h", "--help")
 
 
@@ -69,9 +70,20 @@ def read_words(words: list[str]) -> Given:
 
 
 def preloaded(shared: Path) -> dict[str, str]:
-    """The environment of a program with the object in front of what is preloaded already."""
-    before = os.environ.get(PRELOAD)
-    return {**os.environ, PRELOAD: f"{shared}:{before}" if before else str(shared)}
+    """The environment of a program with the object in front of what is preloaded already. The loader parts this list at
+    spaces and colons, and that of the folders of libraries at colons alone."""
+    if ":" in str(shared):
+        raise ToolFault(FILES, f"{shared}: nothing is preloaded whose path has a colon")
+    if not any(character.isspace() for character in str(shared)):
+        return {**os.environ, PRELOAD: before_those(PRELOAD, str(shared))}
+    own = {PRELOAD: before_those(PRELOAD, shared.name), LIBRARIES: before_those(LIBRARIES, str(shared.parent))}
+    return {**os.environ, **own}
+
+
+def before_those(name: str, first: str) -> str:
+    """A list of the environment with something before all that it has."""
+    rest = os.environ.get(name)
+    return f"{first}:{rest}" if rest else first
 
 
 def reported(given: Given, environment: dict[str, str], room: Path) -> int:

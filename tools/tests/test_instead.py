@@ -73,6 +73,13 @@ class Words(unittest.TestCase):
         with unittest.mock.patch.dict(os.environ, {"LD_PRELOAD": "/x.so"}):
             self.assertEqual(cli.preloaded(Path("/o.so"))["LD_PRELOAD"], "/o.so:/x.so")
 
+    def test_spaces(self) -> None:
+        """The loader parts what is preloaded at spaces: an object below such a folder is found by its name."""
+        with unittest.mock.patch.dict(os.environ, {"LD_PRELOAD": "", "LD_LIBRARY_PATH": "/y"}):
+            found = cli.preloaded(Path("/a b/o.so"))
+            self.assertEqual((found["LD_PRELOAD"], found["LD_LIBRARY_PATH"]), ("o.so", "/a b:/y"))
+            self.assertRaisesRegex(ToolFault, "/a:b/o.so: nothing is preloaded", cli.preloaded, Path("/a:b/o.so"))
+
 
 class Reports(unittest.TestCase):
     def test_sums(self) -> None:
