@@ -12,6 +12,8 @@ from sources.crates import ROOT
 
 # The gate builds what tools/build leaves out.
 GATE = "rt ci"
+# A variable of the environment with which no program is made for a use, so that a run of tests doesn't wait for one.
+NO_BUILD = "KUSPVELI_NO_BUILD"
 
 
 def is_ready(target: Target = PROGRAM, root: Path = ROOT) -> bool:
@@ -60,6 +62,8 @@ def make(place: Place, name: str, why: str) -> None:
     """Makes an unproved program, and tells why under the name of the tool that runs it."""
     from building.unproved import make_unproved  # few runs need it
 
+    if os.environ.get(NO_BUILD) and place.root == ROOT:
+        raise ToolFault(FILES, f"{place.target.name} is not built, and {NO_BUILD} is set")
     teller = Teller(name)
     teller.line(why)
     failure = make_unproved(place, teller)

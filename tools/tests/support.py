@@ -20,7 +20,10 @@ TOOLS = Path(__file__).parent.parent
 BENCH = TOOLS.parent / "bench"
 sys.path[:0] = [str(TOOLS), str(BENCH)]
 
-from building.places import KUSPVELI, standing  # noqa: E402
+import building.ready  # noqa: E402
+from building.places import KUSPVELI, Place, standing  # noqa: E402
+from building.ready import NO_BUILD  # noqa: E402
+from common.faults import ToolFault  # noqa: E402
 
 DEJAVU = "/usr/share/fonts/truetype/dejavu/DejaVuSans.ttf"
 NASKH = "/usr/share/fonts/truetype/noto/NotoNaskhArabic-Regular.ttf"
@@ -36,8 +39,24 @@ UNPROVED = re.compile(r"^\w+: (kuspveli|hb_shape) is unproved: .*\n", re.MULTILI
 needs_unicode = unittest.skipUnless(Path(UNICODE).is_file(), "needs unicode-data")
 
 
-# Fonts are read by this program.
-needs_kuspveli = unittest.skipUnless(standing(KUSPVELI).is_current(), "needs the program kuspveli (tools/build)")
+# Fonts are read by this program. None is made for a test, in this process or in one that a test starts.
+KUSPVELI_NEEDED = "needs the program kuspveli (tools/build)"
+HAS_KUSPVELI = standing(KUSPVELI).is_current()
+needs_kuspveli = unittest.skipUnless(HAS_KUSPVELI, KUSPVELI_NEEDED)
+make_program = building.ready.make
+
+
+def make_or_skip(place: Place, name: str, why: str) -> None:
+    """Skips the test where this repository's program is missing."""
+    try:
+        make_program(place, name, why)
+    except ToolFault as fault:
+        raise unittest.SkipTest(KUSPVELI_NEEDED) if NO_BUILD in str(fault) else fault
+
+
+if not HAS_KUSPVELI:
+    os.environ[NO_BUILD] = "1"
+    building.ready.make = make_or_skip
 
 
 class WithoutFonts(MetaPathFinder):
@@ -55,7 +74,10 @@ if not HAS_FONTS:
 def run(tool: str, *words: str | bytes) -> subprocess.CompletedProcess[bytes]:
     """Runs a tool; its cache is a folder of its own, so that no test sees another's."""
     environment = {**os.environ, "XDG_CACHE_HOME": tempfile.gettempdir()}
-    return subprocess.run([TOOLS / tool, *words], capture_output=True, check=False, env=environment)
+    ran = subprocess.run([TOOLS / tool, *words], capture_output=True, check=False, env=environment)
+    if NO_BUILD.encode() in ran.stderr:
+        raise unittest.SkipTest(KUSPVELI_NEEDED)
+    return ran
 
 
 def json_of(tool: str, *words: str) -> dict[str, Any]:

@@ -101,8 +101,20 @@ fn set_files<'a>(rt: &HostRuntime, words: &'a [String]) -> Result<String, Fault<
     let units = width
         .parse()
         .map_err(|_| Fault::Word(width, WordFault::Width))?;
+    let tables = unicode_tables(rt.alloc()).map_err(|fault| Fault::Word(text, fault))?;
+    set_by_tables(rt, &tables, font, text, units)
+}
+
+/// Reads a font and a text, and sets the text in lines.
+fn set_by_tables<'a>(
+    rt: &HostRuntime,
+    tables: &TextTables,
+    font: &'a str,
+    text: &'a str,
+    width: i64,
+) -> Result<String, Fault<'a>> {
     let face = read_face(rt, font).map_err(|fault| Fault::Word(font, fault))?;
-    set_file(rt, &face, text, units).map_err(|fault| Fault::Word(text, fault))
+    set_file(rt, tables, &face, text, width).map_err(|fault| Fault::Word(text, fault))
 }
 
 /// Reads the first font of a file into a box, since it is large.
@@ -119,9 +131,14 @@ fn unicode_tables(alloc: Global) -> Result<Box<TextTables>, WordFault> {
 }
 
 /// Reads the text of a paragraph, and sets it in lines.
-fn set_file(rt: &HostRuntime, face: &Face, name: &str, width: i64) -> Result<String, WordFault> {
+fn set_file(
+    rt: &HostRuntime,
+    tables: &TextTables,
+    face: &Face,
+    name: &str,
+    width: i64,
+) -> Result<String, WordFault> {
     let text = fs::read_to_string(rt, name)?;
-    let tables = unicode_tables(rt.alloc())?;
     let setup = Setup {
         alloc: rt.alloc(),
         face,
