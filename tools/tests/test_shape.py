@@ -467,7 +467,7 @@ class Verified(unittest.TestCase):
 
         with mock.patch.object(Promises, "run", run_level):
             given = Given(Path("f"), text)
-            return list(Promises(Path(), Path(), Path(), Text(text.encode(), "the text"), given).broken())
+            return list(Promises(mock.Mock(), Text(text.encode(), "the text"), given).broken())
 
     def test_kept(self) -> None:
         self.assertEqual(self.broken(lambda level, more, lines: lines), [])
@@ -521,7 +521,7 @@ class Parts(unittest.TestCase):
         self.assertEqual(glyphs[0], Glyph(3, 0, 1, -2, 5, 0, 0, None))
         self.assertEqual(glyphs[1], Glyph(4, 7, 0, 0, 0, -9, 3, (1, 2, 3, 4)))
         self.assertEqual(read_line("\n"), [])
-        self.assertRaises(ToolFault, read_line, "o=0+1\n")
+        self.assertEqual(read_line("o=0+1\n")[0], Glyph(0, 0, 0, 0, 1, 0, 0, None, "o"))
         bare = Given(Path("f"), "t", {}, ["--no-glyph-names", "--no-clusters", "--no-positions"])
         self.assertEqual(as_json(read_line("3|4"), {3: "three"}, bare), '[{"g":3},{"g":4}]')
 
