@@ -1,8 +1,8 @@
 //! The Indic shaper's orders of syllables, by listed forms and by the forms of fonts.
 mod costs;
-pub(crate) mod font_rows;
-pub(crate) mod fonts;
+mod font_rows;
+mod fonts;
 mod forms;
-pub(crate) mod rows;
+mod rows;
 mod text;
 mod would_substitute;

@@ -34,6 +34,4 @@ mod stages;
 #[cfg(test)]
 mod syllables;
 #[cfg(test)]
-mod tables;
-#[cfg(test)]
 mod thai;
