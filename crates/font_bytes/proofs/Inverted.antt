@@ -6,8 +6,3 @@ use Rattle.font_bytes.specs.Results.{and_then}
 pub chain_ok : {A B E : Type 0} (x : Result A E) (next : A → Result B E) (b : B) → and_then x next ≡ Ok b → (a : A) × (next a ≡ Ok b)
 chain_ok (Ok a) next b h = (a, h)
 chain_ok (Err e) next b h = cc
-
--- a test that could have refused
-pub test_ok : {A E : Type 0} (t : Bool) (x : Result A E) (e : E) (a : A) → (if t then x else Err e) ≡ Ok a → (t ≡ true) × (x ≡ Ok a)
-test_ok true x e a h = (refl, h)
-test_ok false x e a h = cc

@@ -6,6 +6,3 @@ pub mod rows;
 
 pub use array::{RecordReader, read_array};
 pub use rows::{RowReader, read_covered_rows, read_rows_of_glyphs};
-
-#[cfg(test)]
-mod tests;

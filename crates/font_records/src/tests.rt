@@ -1,1 +1,0 @@
-//! Rows and arrays, by a subtable written out.
