@@ -33,7 +33,7 @@ extern "C" {
 #endif
 
 #define KUS_VERSION_MAJOR 0
-#define KUS_VERSION_MINOR 1
+#define KUS_VERSION_MINOR 2
 #define KUS_VERSION_MICRO 0
 
 /* Tables of characters, syllables and languages, which fonts share. */

@@ -18,12 +18,12 @@ use c_text::types::{kus_glyph_extents_t, kus_slice_t};
 use c_text::written::write_front;
 use std::alloc::Global;
 
-/// The version of the library: each of its three numbers in a byte, 0.1.0 as 0x000100.
+/// The version of the library: each of its three numbers in a byte, 0.2.0 as 0x000200.
 #[unsafe(no_mangle)]
 pub extern "C" fn kus_version() -> u32
-    ensures { result ≡ 0x0100 }
+    ensures { result ≡ 0x0200 }
 {
-    0x0100
+    0x0200
 }
 
 /// The direction by which the font's last text was shaped (`hb_direction_t`), 0 where there is none.

@@ -393,6 +393,6 @@ fn fonts_answer_questions(rt: HostRuntime) -> Result<(), Fail> {
     let holds = questions_are_answered(rt.alloc(), &mut font);
     close(font);
     assert!(rt; holds?);
-    assert_eq!(rt; kus_version(), 0x000100);
+    assert_eq!(rt; kus_version(), 0x000200);
     Ok(())
 }

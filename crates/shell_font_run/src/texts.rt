@@ -57,4 +57,4 @@ status: 2 the words, 3 the font, 4 the text, 5 what can't be shaped, 6 files.
 ";
 
 /// Which version the program is.
-pub const VERSION_LINE: &str = "kuspveli 0.1.0\n";
+pub const VERSION_LINE: &str = "kuspveli 0.2.0\n";
