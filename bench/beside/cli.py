@@ -13,7 +13,7 @@ from fontTools.ttLib import TTFont
 
 from beside.chart import chart
 from beside.differences import Difference, difference
-from beside.kept import INSTRUCTIONS, NANOSECONDS, Kept, read_kept, run_of, write_kept
+from beside.kept import INSTRUCTIONS, NANOSECONDS, Kept, read_kept, run_of, told_run, write_kept
 from beside.pages import text_of, words_of
 from beside.programs import THEIRS, Files, build_driver, printed_by
 from beside.opening import opening_lines
@@ -184,7 +184,8 @@ def command_of(options: argparse.Namespace) -> str:
     only = "".join(f" --only {word}" for word in options.only or [])
     how = " --instructions" if options.instructions else f" --runs {options.runs}"
     pages = "" if options.pages == (COUNTED_PAGES if options.instructions else PAGES) else f" --pages {options.pages}"
-    return f"bench/real{how}{pages}{' --memory' if options.memory else ''}{only}"
+    asked = "".join(f" --{word}" for word in ("opening", "memory") if getattr(options, word))
+    return f"bench/real{how}{pages}{asked}{only}"
 
 
 # ---- a run
@@ -193,7 +194,9 @@ def command_of(options: argparse.Namespace) -> str:
 def show_opening(sets: list[Set], options: argparse.Namespace, made: Path) -> int:
     """Measures opening font files by their bytes, and prints the table, or writes it into a document."""
     driver = build_driver(made, options.library)
-    lines = opening_lines(sets, driver, options.runs, options.instructions, made)
+    run = run_of(command_of(options), INSTRUCTIONS if options.instructions else NANOSECONDS, options.library)
+    told = told_run(run, "the library", f"that of {run['harfbuzz']}")
+    lines = [*told, "", *opening_lines(sets, driver, options.runs, options.instructions, made)]
     if options.table is not None:
         replace_part(options.table, BEGIN_OPENING, END_OPENING, lines)
     print("\n".join(lines))

@@ -8,7 +8,7 @@ from typing import Any
 
 from beside.programs import THEIRS, printed_by
 from beside.table import MARKS, ONCE, Pair, Row
-from building.places import UNPROVED
+from building.places import MEASURED, UNPROVED
 from common.documents import wrapped
 from common.faults import DATA, ToolFault
 from common.files import write_file
@@ -34,24 +34,28 @@ class Kept:
 
     def told(self) -> list[str]:
         """What was measured, in lines of a document."""
-        run = self.run
-        is_proved = run["library"] != UNPROVED
-        by = f"proved with {run['kit']}" if is_proved else f"not proved (made by {run['kit']}, with no proof checked)"
-        counted = "in instructions, which callgrind counts and no other load of the machine changes"
-        unit = counted if self.is_counted else "in nanoseconds of processor time"
-        return wrapped(
-            f"By `{run['command']}` of {run['date']} at commit {run['commit']}, of the program and the library {by}, "
-            f"beside {run['harfbuzz']} and its library, {unit}, on {run['host']}."
-        )
+        return told_run(self.run, "the program and the library", f"{self.run['harfbuzz']} and its library")
 
 
-def run_of(command: str, unit: str, program: Path) -> dict[str, str]:
-    """What is kept of a run beside its rows."""
+def told_run(run: dict[str, str], own: str, theirs: str) -> list[str]:
+    """What a run measured of both sides, in lines of a document."""
+    is_proved = run["library"] != UNPROVED
+    by = f"proved with {run['kit']}" if is_proved else f"not proved (made by {run['kit']}, with no proof checked)"
+    counted = "in instructions, which callgrind counts and no other load of the machine changes"
+    unit = counted if run["unit"] == INSTRUCTIONS else "in processor time"
+    return wrapped(
+        f"By `{run['command']}` of {run['date']} at commit {run['commit']}, of {own} {by}, "
+        f"beside {theirs}, {unit}, on {run['host']}."
+    )
+
+
+def run_of(command: str, unit: str, built: Path) -> dict[str, str]:
+    """What is kept of a run beside its rows, of what was built."""
     return {
         "command": command,
         "unit": unit,
         "harfbuzz": printed_by([THEIRS, "--version"])[0],
-        "library": UNPROVED if program.parent.name == UNPROVED else "proved",
+        "library": UNPROVED if built.parent.name in (UNPROVED, MEASURED) else "proved",
         "kit": first_line("rt", "version"),
         "host": host(),
         "date": date.today().isoformat(),

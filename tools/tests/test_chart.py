@@ -6,12 +6,13 @@ import tempfile
 import unittest
 import xml.etree.ElementTree as tree
 from pathlib import Path
+from unittest import mock
 
 from support import TOOLS
 
-from beside import cli
+from beside import cli, kept
 from beside.chart import NAMES, chart
-from beside.kept import KEYS, Kept, read_kept, set_of, write_kept
+from beside.kept import KEYS, Kept, read_kept, run_of, set_of, told_run, write_kept
 from beside.sets import SETS
 from beside.table import Pair, Row, tables
 from common.faults import ToolFault
@@ -48,6 +49,15 @@ class Numbers(unittest.TestCase):
             lines = " ".join(Kept({**RUN, "library": library, "unit": unit}, []).told())
             self.assertIn(f"By `command` of date at commit commit, of the program and the library {words}", lines)
             self.assertEqual("callgrind counts" in lines, unit == "instructions")
+        lines = " ".join(told_run({**RUN, "library": "unproved"}, "the library", "that of HarfBuzz"))
+        self.assertIn("of the library not proved (made by kit, with no proof checked), beside that of HarfBuzz, in", lines)
+
+    def test_built(self) -> None:
+        """A run of what was compiled to be measured is one of no proof, too."""
+        with mock.patch.multiple(kept, printed_by=lambda _: ["HarfBuzz"], first_line=lambda *_: "line", host=str):
+            for folder, library in (("out", "proved"), ("unproved", "unproved"), ("measured", "unproved")):
+                told = run_of("command", "unit", Path(folder) / "libkuspveli.a")
+                self.assertEqual(told["library"], library)
 
     def test_chart(self) -> None:
         """Bars of a set as long as their ratios, and the line where a ratio of 1 ends; none without a ratio."""
