@@ -79,9 +79,16 @@ def level(text: str) -> str:
     return text
 
 
+# A sign, a tag, a range of clusters, a value.
+FEATURE = re.compile(
+    r"""\s*[+-]?\s*(?:\w{1,4}|"\w{1,4}"|'\w{1,4}')\s*(?:\[[\d:;+-]*\])?\s*(?:=?\s*(?:\d+|on|off))?\s*""",
+    re.ASCII | re.IGNORECASE,
+)
+
+
 def features(text: str) -> str:
     for part in text.split(","):
-        if not re.match(r"""\s*[+-]?\s*(?:\w{1,4}(?!\w)|"\w{1,4}"|'\w{1,4}')""", part, re.ASCII):
+        if not FEATURE.fullmatch(part):
             raise ValueError(f"no feature: {part!r}; features are as -liga, kern=2 or ss01[3:5], with commas")
     return text
 

@@ -8,8 +8,10 @@ import stat
 from pathlib import Path
 from typing import Any, BinaryIO, Callable, Sequence
 
-from common.faults import DATA, FILES, TEXT, WORDS
+from common.faults import DATA, FILES, TEXT, WORDS, ToolFault
+from fontjson.check_packed import is_packed
 from formats.named import FONT, KEY, TABLES
+from formats.sfnt import check_file, is_font_file
 from shaping.program_words import FILES as ROLES
 from shaping.program_words import KUSPVELI, USAGE, files_of, word_fault
 
@@ -31,13 +33,38 @@ def hb_shape_reasons(status: int, words: list[str]) -> list[str]:
 
 
 def kuspveli_reasons(status: int, words: list[str]) -> list[str]:
-    """The word that is wrong, or why the font file can't be read. Of other faults the program's own line says where."""
+    """The word that is wrong, or why the font file can't be read, or is none. Of other faults the program's own line says
+    where."""
     if status == WORDS:
         return [word_fault(words, KUSPVELI) or f"these words are refused: {KUSPVELI.usage} (tools/kuspveli --help)"]
-    if status != FILES or word_fault(words, KUSPVELI):
+    if status not in (DATA, FILES) or word_fault(words, KUSPVELI):
         return []
-    reason = reading_reason(files_of(words, KUSPVELI)[:1], KUSPVELI.files)
+    files = files_of(words, KUSPVELI)[:1]
+    reason = reading_reason(files, KUSPVELI.files) if status == FILES else font_reason(*files, face_of(words))
     return [] if reason is None else [reason]
+
+
+def face_of(words: list[str]) -> int:
+    """The index of the font in its file, of words that are right."""
+    for word, after in zip(words, [*words[1:], ""]):
+        name, _, value = word.partition("=")
+        if name == "--face":
+            return int(value or after)
+        if word == "--":
+            break
+    return 0
+
+
+def font_reason(name: str, index: int) -> str | None:
+    """Why a file has no font that the program reads; None where it has one, which is damaged."""
+    role = KUSPVELI.files[0]
+    try:
+        if is_packed(name):
+            return f"{role}: {name}: a packed font (WOFF): tools/shape reads it"
+        check_file(name, index)
+    except (OSError, ToolFault) as fault:
+        return f"{role}: {fault}"
+    return None if is_font_file(Path(name)) else f"{role}: {name}: no TrueType or OpenType font"
 
 
 def reason_of(status: int, words: list[str]) -> str | None:

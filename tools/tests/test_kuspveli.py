@@ -38,6 +38,8 @@ REFUSED = {
     "--face=65540 a": "--face: an index of a font is a number, from 0 on: '65540'",
     "--face a": "--face: an index of a font is a number, from 0 on: 'a'",
     "--features -liga a": "--features: its value is missing: --features=F",
+    "--features=kern=x a": "--features: no feature: 'kern=x'; features are as -liga, kern=2 or ss01[3:5], with commas: 'kern=x'",
+    "--features=liga,k;rn a": "--features: no feature: 'k;rn'; features are as -liga, kern=2 or ss01[3:5], with commas: 'liga,k;rn'",
     "--lines a --slices": "--slices: with --lines there are none",
     "a --keep-going": "--keep-going: it takes --lines too",
     "a --bot --bot": "--bot: given twice",
@@ -96,6 +98,20 @@ class Commands(unittest.TestCase):
         self.assertEqual(self.told(FILES, "/none", "a"), "kuspveli: FONT: /none: No such file or directory\n")
         self.assertEqual(self.told(FILES, OWN), "")
         self.assertEqual(self.told(DATA, OWN, "a"), "")
+
+    def test_no_font(self) -> None:
+        """After the program's own line one says that a file is no font, or has none with the index."""
+        path = self.folder / "font.ttf"
+        for content, words, says in (
+            (b"", [], "no font: the file is empty"),
+            (b"This is a text.", [], "no TrueType or OpenType font"),
+            (b"wOFF and more", ["--lines"], "a packed font (WOFF): tools/shape reads it"),
+            (b"ttcf\0\1\0\0\0\0\0\2", ["--face=2"], "no font at index 2: the collection has 2, from index 0 on"),
+            (b"ttcf\0\1\0\0\0\0\0\2", ["--face", "7"], "no font at index 7: the collection has 2, from index 0 on"),
+            (b"\0\1\0\0 of one font", ["--face=1"], "no font at index 1: the file is no collection"),
+        ):
+            path.write_bytes(content)
+            self.assertEqual(self.told(DATA, *words, str(path), "a"), f"kuspveli: FONT: {path}: {says}\n")
 
     def test_own(self) -> None:
         """Words that are wrong, and a request for help, begin no build."""
