@@ -100,8 +100,18 @@ fn slots_of<R: Numbered>(rows: &[R]) -> usize
     count.min(MAX_SLOTS)
 }
 
-/// The index of the records: pages of 128 characters, as many as there is room for their slots. It is empty where there
-/// are no records, or too many for slots of 16 bits.
+/// How many pages the records have, from that of the first character to that of the last record.
+fn page_count<R: Numbered>(rows: &[R]) -> u32
+    ensures { result ≤ 8704 }
+{
+    match rows.last() {
+        Some(last) => PAGES.min(last.number() / PAGE + 1),
+        None => 0,
+    }
+}
+
+/// The index of the records: pages of 128 characters up to the last record's, as many as there is room for their slots.
+/// It is empty where there are no records, or too many for slots of 16 bits.
 fn index_of<R: Numbered>(alloc: Global, rows: &[R]) -> Result<Index, AllocError>
     requires { numbers_rise R.number_of rows.now ≡ true }
     ensures { IfOk result (λ i. ArePages R.number_of rows.now i.pages.items i.slots.items) }
@@ -113,10 +123,11 @@ fn index_of<R: Numbered>(alloc: Global, rows: &[R]) -> Result<Index, AllocError>
         });
     }
     // Neither list grows past its room, so that no more than this is ever allocated.
-    let mut pages = Vec::with_capacity(alloc, PAGES as usize)?;
+    let count = page_count(rows);
+    let mut pages = Vec::with_capacity(alloc, count as usize)?;
     let mut slots = Vec::with_capacity(alloc, slots_of(rows))?;
     let mut at = 0;
-    for page in 0..PAGES {
+    for page in 0..count {
         if slots.len() >= MAX_SLOTS {
             return Ok(Index { pages, slots });
         }
