@@ -11,7 +11,7 @@ use Rattle.buffer_rows.proofs.Paged.{below_differs, never_falls, none_above, sam
 use Rattle.buffer_rows.proofs.Searched.{guessed, row_of_number}
 
 -- rows below a number have no record of it
-none_below : {R : Type 0} (number : R → ℕ) (k : ℕ) (rows : List R) → ((i : ℕ) (d : R) → i < length rows → number (get_or rows i d) < k) → row_of number k rows ≡ None
+pub none_below : {R : Type 0} (number : R → ℕ) (k : ℕ) (rows : List R) → ((i : ℕ) (d : R) → i < length rows → number (get_or rows i d) < k) → row_of number k rows ≡ None
 none_below number k [] h = refl
 none_below number k (r ∷ rows) h =
     let here : (number r == k) ≡ false = below_differs (number r) k (h 0 r (omega arith)) in

@@ -4,3 +4,4 @@ pub mod DenseSlots
 pub mod Passes
 pub mod StableSort
 pub mod Orders
+pub mod Filled

@@ -58,23 +58,3 @@ start_passed number rows k at rising h lt least = record {
       let later : number (get_or rows at d) < number (get_or rows i d) = strictly_rises number rows at i d rising (omega (arith, ge)) l in
       omega (arith, low, later);
 }
-
--- from the first record on begin the records of its number
-pub start_of_first : {R : Type 0} (number : R → ℕ) (rows : List R) (x : R) → numbers_rise number rows ≡ true → slice_get rows 0 ≡ Some x → IsStart number rows (number x) 0
-start_of_first number rows x rising is = record {
-  within = omega arith;
-  below = λ i d lt. absurd (omega (arith, lt));
-  rest = λ i d ge lt.
-      let least : number (get_or rows 0 d) ≤ number (get_or rows i d) = never_falls number rows 0 i d rising ge lt in
-      let here : number (get_or rows 0 d) ≡ number x = ap number (get_or_from_slice_get rows 0 x d is) in
-      omega (arith, least, here);
-}
-
--- no records begin at 0
-pub start_of_none : {R : Type 0} (number : R → ℕ) (rows : List R) (first : ℕ) → slice_get rows 0 ≡ None → IsStart number rows first 0
-start_of_none number [] first h = record {
-  within = omega arith;
-  below = λ i d lt. absurd (omega (arith, lt));
-  rest = λ i d ge lt. absurd (omega (arith, lt));
-}
-start_of_none number (r ∷ rows) first h = cc

@@ -1,11 +1,11 @@
 //! A table of records in the strict order of their numbers, with a slot for each number from the first to the last.
-ghost use Rattle.std.specs.Prelude.{◌≡◌, ◌<◌, ◌≤◌, ◌+◌, [], true, IfOk, IfSome, length};
+ghost use Rattle.std.specs.Prelude.{ℕ, ◌≡◌, ◌≢◌, ◌<◌, ◌≤◌, ◌+◌, [], true, IfOk, IfSome, Some, length, replicate, slice_get};
 ghost use Rattle.buffer_rows.specs.Keys.{numbers_rise, row_of};
 ghost use Rattle.buffer_rows.specs.Dense.{AreWithin};
-ghost use Rattle.buffer_rows.specs.Pages.{IsBlock, IsStart};
+ghost use Rattle.buffer_rows.specs.Pages.{IsBlock};
 
 use crate::numbered::{Numbered, find_number_near};
-use crate::slots::{entry, push_slots, record_in};
+use crate::slots::{entry, record_in};
 use std::alloc::{AllocError, Global};
 use std::marker::Model;
 
@@ -90,11 +90,10 @@ impl<R: Numbered> DenseRows<R> {
 }
 
 /// The numbers of the first and the last record, 1 and 0 where there are none.
-#[tactic(auto, using(crate::proofs::DenseSlots::within_ends, crate::proofs::DenseSlots::none_first, crate::proofs::DenseSlots::none_last, crate::proofs::Passes::start_of_first, crate::proofs::Passes::start_of_none))]
+#[tactic(auto, using(crate::proofs::DenseSlots::within_ends, crate::proofs::DenseSlots::none_first, crate::proofs::DenseSlots::none_last))]
 fn ends_of<R: Numbered>(rows: &[R]) -> (u32, u32)
     requires { numbers_rise R.number_of rows.now ≡ true }
-    ensures within { AreWithin R.number_of rows.now result.0 result.1 }
-    ensures start { IsStart R.number_of rows.now result.0 0 }
+    ensures { AreWithin R.number_of rows.now result.0 result.1 }
 {
     let Some(first) = rows.first() else {
         return (1, 0);
@@ -129,14 +128,50 @@ fn slots_between<R: Numbered>(
     first: u32,
     last: u32,
 ) -> Result<Vec<u16>, AllocError>
-    requires rising { numbers_rise R.number_of rows.now ≡ true }
-    requires start { IsStart R.number_of rows.now first 0 }
+    requires { numbers_rise R.number_of rows.now ≡ true }
     ensures { IfOk result (λ slots. IsBlock R.number_of rows.now slots.items 0 first (length slots.items)) }
 {
     let Some(count) = slot_count(rows.len(), first, last) else {
         return Ok(Vec::new(alloc));
     };
-    let mut slots = Vec::with_capacity(alloc, count as usize)?;
-    push_slots(rows, 0, first, count, &mut slots)?;
+    let mut slots = no_records(alloc, count as usize)?;
+    fill_slots(rows, first, &mut slots);
     Ok(slots)
+}
+
+/// The slots of numbers without records.
+fn no_records(alloc: Global, count: usize) -> Result<Vec<u16>, AllocError>
+    ensures { IfOk result (λ slots. slots.items ≡ replicate count 0) }
+{
+    let mut slots = Vec::with_capacity(alloc, count)?;
+    slots.resize(count, 0)?;
+    Ok(slots)
+}
+
+/// Sets a slot, if there is one at the index.
+#[tactic(auto, using(crate::proofs::Filled::set_same, crate::proofs::Filled::set_other))]
+fn set_slot(slots: &mut Vec<u16>, at: usize, slot: u16)
+    ensures size { length slots.new.items ≡ length slots.old.items }
+    ensures there { at < length slots.old.items → slice_get slots.new.items at ≡ Some slot }
+    ensures others { (i : ℕ) → i ≢ at → slice_get slots.new.items i ≡ slice_get slots.old.items i }
+{
+    if at < slots.len() {
+        slots[at] = slot;
+    }
+}
+
+/// Sets the slots of the records, among slots of the numbers from `first` on.
+fn fill_slots<R: Numbered>(rows: &[R], first: u32, slots: &mut Vec<u16>)
+    requires rising { numbers_rise R.number_of rows.now ≡ true }
+    requires few { length rows.now < 65535 }
+    requires none { slots.old.items ≡ replicate (length slots.old.items) 0 }
+    ensures { IsBlock R.number_of rows.now slots.new.items 0 first (length slots.new.items) }
+{
+    for i in 0..rows.len() {
+        let number = rows[i].number();
+        if number < first {
+            continue;
+        }
+        set_slot(slots, (number - first) as usize, i as u16 + 1);
+    }
 }
