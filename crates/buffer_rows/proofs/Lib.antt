@@ -5,3 +5,4 @@ pub mod Passes
 pub mod StableSort
 pub mod Orders
 pub mod Filled
+pub mod Replaced

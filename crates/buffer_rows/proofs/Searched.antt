@@ -12,12 +12,12 @@ use Rattle.std.proofs.lemmas.List.Sorted.{searchable_from_sorted}
 use Rattle.buffer_rows.specs.Keys.{is_rising, row_with, row_of}
 use Rattle.buffer_facts.proofs.Truth.{both_true as both_parts}
 
-is_less : (o : Ordering) → is_lt o ≡ true → o ≡ Less
+pub is_less : (o : Ordering) → is_lt o ≡ true → o ≡ Less
 is_less Less h = refl
 is_less Equal h = absurd (false≢true h)
 is_less Greater h = absurd (false≢true h)
 
-is_equal : (o : Ordering) → is_eq o ≡ true → o ≡ Equal
+pub is_equal : (o : Ordering) → is_eq o ≡ true → o ≡ Equal
 is_equal Less h = absurd (false≢true h)
 is_equal Equal h = refl
 is_equal Greater h = absurd (false≢true h)
@@ -30,7 +30,7 @@ not_equal Greater h = refl
 not_back : {K : Type 0} (order : K → K → Ordering) → IsTotalOrder order → (x y : K) → order x y ≡ Less → is_lt (order y x) ≡ false
 not_back order total x y h = rw (total.antisymm y x, h) refl
 
-less_apart : {o : Ordering} → o ≡ Less → o ≡ Equal → ⊥
+pub less_apart : {o : Ordering} → o ≡ Less → o ≡ Equal → ⊥
 less_apart a b = cc
 
 greater_apart : {o : Ordering} → o ≡ Greater → o ≡ Equal → ⊥
@@ -38,7 +38,7 @@ greater_apart a b = cc
 
 module _ {R K : Type 0} (order : K → K → Ordering) (total : IsTotalOrder order) (key : R → K) where
   -- a key below the rising records is below each of them
-  below_each : (b : K) (rows : List R) (i : ℕ) (d : R) → is_rising order key (Some b) rows ≡ true → i < length rows → order b (key (get_or rows i d)) ≡ Less
+  pub below_each : (b : K) (rows : List R) (i : ℕ) (d : R) → is_rising order key (Some b) rows ≡ true → i < length rows → order b (key (get_or rows i d)) ≡ Less
   below_each b [] i d rising h = absurd (omega (arith, h))
   below_each b (r ∷ rows) zero d rising h = is_less _ ((both_parts _ _ rising).0)
   below_each b (r ∷ rows) (suc i) d rising h = total.trans b (key r) _ (is_less _ ((both_parts _ _ rising).0)) (below_each (key r) rows i d ((both_parts _ _ rising).1) (omega (arith, h)))
@@ -52,7 +52,7 @@ module _ {R K : Type 0} (order : K → K → Ordering) (total : IsTotalOrder ord
       let less : order (key r) k ≡ Less = sym (alike_right total _ _ (key r) e) ∙ below_each (key r) rows i d rest low in
       rw less (row_found (Some (key r)) rows k i d rest low e)
 
-  row_missing : (rows : List R) (k : K) → ((i : ℕ) (d : R) → i < length rows → order (key (get_or rows i d)) k ≢ Equal) → None ≡ row_with order key k rows
+  pub row_missing : (rows : List R) (k : K) → ((i : ℕ) (d : R) → i < length rows → order (key (get_or rows i d)) k ≢ Equal) → None ≡ row_with order key k rows
   row_missing [] k none = refl
   row_missing (r ∷ rows) k none =
       let here : is_eq (order (key r) k) ≡ false = not_equal (order (key r) k) (none 0 r (omega arith)) in
@@ -86,7 +86,7 @@ module _ {R K : Type 0} (order : K → K → Ordering) (total : IsTotalOrder ord
   pub guessed : (rows : List R) (k : K) (i : ℕ) (d : R) → is_rising order key None rows ≡ true → i < length rows → is_eq (order (key (get_or rows i d)) k) ≡ true → Some (get_or rows i d) ≡ row_with order key k rows
   guessed rows k i d rising h e = row_found None rows k i d rising h (is_equal _ e)
 
-equal_numbers : (a b : ℕ) → is_eq (nat_cmp a b) ≡ (a == b)
+pub equal_numbers : (a b : ℕ) → is_eq (nat_cmp a b) ≡ (a == b)
 equal_numbers a b = grind (arith, nat_tests)
 
 -- at numbers the record of an equal key is the record of the number

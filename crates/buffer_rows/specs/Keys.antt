@@ -1,5 +1,5 @@
 -- Records in the strict order of their keys.
-use Rattle.std.specs.Prelude.{ℕ, ◌&&◌, ◌==◌, Bool, true, List, [], ◌∷◌, Option, Some, None, find}
+use Rattle.std.specs.Prelude.{ℕ, ◌&&◌, ◌==◌, if◌then◌else◌, Bool, true, List, [], ◌∷◌, map, Option, Some, None, find}
 use Rattle.std.specs.declared.cmp.Ordering.{Ordering}
 use Rattle.std.specs.Ordering.{is_lt, is_eq, nat_cmp}
 
@@ -16,6 +16,10 @@ is_rising order key before (r ∷ rows) = is_above order before (key r) && is_ri
 -- the record of a key
 abbrev pub row_with : {R K : Type 0} → (K → K → Ordering) → (R → K) → K → List R → Option R
 row_with order key k rows = find (λ r. is_eq (order (key r) k)) rows
+
+-- the records with another in the place of that of its key
+abbrev pub with_row : {R K : Type 0} → (K → K → Ordering) → (R → K) → R → List R → List R
+with_row order key row rows = map (λ r. if is_eq (order (key r) (key row)) then row else r) rows
 
 -- ---- keys that are numbers
 

@@ -1,6 +1,7 @@
 //! Lists of records in the strict order of their keys.
-ghost use Rattle.std.specs.Prelude.{◌≡◌, None, true};
+ghost use Rattle.std.specs.Prelude.{◌≡◌, ◌<◌, MatchOption, None, get_or, length, true};
 ghost use Rattle.std.specs.Option.{option_copied};
+ghost use Rattle.std.specs.declared.cmp.Ordering.TheVariants.{Equal};
 ghost use Rattle.buffer_rows.specs.Keys.{is_above, is_rising, row_with};
 
 /// A record of a list that is ordered by a key: a number, or a pair whose first number is the more significant.
@@ -59,5 +60,17 @@ pub fn find_row_near<R: Keyed>(rows: &[R], key: R::Key, guess: usize) -> Option<
     match rows.get(guess) {
         Some(row) if row.key().cmp(&key).is_eq() => Some(row),
         _ => find_row(rows, key),
+    }
+}
+
+/// The index of the record of a key, in logarithmic time.
+pub(crate) fn find_index<R: Keyed>(rows: &[R], key: R::Key) -> Option<usize>
+    requires { is_rising R.Key.cmp R.key_of None rows.now ≡ true }
+    ensures { MatchOption result (None ≡ row_with R.Key.cmp R.key_of key rows.now) (λ i. (i < length rows.now)
+        × ((d : R) → R.Key.cmp (R.key_of (get_or rows.now i d)) key ≡ Equal)) }
+{
+    match rows.binary_search_by_key(&key, |row| row.key()) {
+        Ok(index) => Some(index),
+        Err(_) => None,
     }
 }

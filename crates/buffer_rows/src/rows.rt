@@ -1,9 +1,9 @@
 //! A table of records in the strict order of their keys.
-ghost use Rattle.std.specs.Prelude.{◌≡◌, None, true};
+ghost use Rattle.std.specs.Prelude.{◌≡◌, None, is_some, true};
 ghost use Rattle.std.specs.Option.{option_copied};
-ghost use Rattle.buffer_rows.specs.Keys.{is_rising, row_with};
+ghost use Rattle.buffer_rows.specs.Keys.{is_rising, row_with, with_row};
 
-use crate::keyed::{Keyed, find_row, find_row_near};
+use crate::keyed::{Keyed, find_index, find_row, find_row_near};
 use std::marker::Model;
 
 /// Records whose keys rise strictly, each found by its key.
@@ -67,5 +67,21 @@ impl<R: Keyed> SortedRows<R> {
         ensures rising { is_rising R.Key.cmp R.key_of None result.items ≡ true }
     {
         self.rows
+    }
+}
+
+impl<R: Keyed + Copy> SortedRows<R> {
+    /// Puts a record in the place of that of its key, in logarithmic time; whether there is one.
+    pub fn replace(&mut self, row: R) -> bool
+        ensures found { result ≡ is_some (row_with R.Key.cmp R.key_of (R.key_of row) self.old) }
+        ensures replaced { self.new ≡ with_row R.Key.cmp R.key_of row self.old }
+    {
+        match find_index(&self.rows, row.key()) {
+            Some(index) => {
+                self.rows[index] = row;
+                true
+            }
+            None => false,
+        }
     }
 }

@@ -5,3 +5,4 @@ pub mod Bits
 pub mod Words
 pub mod LowBits
 pub mod Indexed
+pub mod Valued

@@ -1,6 +1,6 @@
 //! Rows of a glyph with a table's value for it.
-ghost use Rattle.std.specs.Prelude.{◌≡◌, ◌==◌};
-ghost use Rattle.layout_common.specs.Rows.{value_of};
+ghost use Rattle.std.specs.Prelude.{◌≡◌, ◌==◌, is_some};
+ghost use Rattle.layout_common.specs.Rows.{value_of, with_value};
 
 use crate::digest::hb_set_digest_ext;
 use crate::digested::Covers;
@@ -66,6 +66,15 @@ pub fn find_value<V: Copy>(rows: &SortedRows<GlyphRow<V>>, glyph: u16) -> Option
         Some(row) => Some(row.value),
         None => None,
     }
+}
+
+/// Puts a value in the place of a glyph's, in logarithmic time; whether the table has a row of the glyph.
+#[tactic(auto, using(buffer_rows::proofs::Replaced::number_replaced, crate::proofs::Valued::is_found))]
+pub fn set_value<V: Copy>(rows: &mut SortedRows<GlyphRow<V>>, glyph: u16, value: V) -> bool
+    ensures found { result ≡ is_some (value_of glyph rows.old) }
+    ensures set { rows.new ≡ with_value glyph value rows.old }
+{
+    rows.replace(GlyphRow { glyph, value })
 }
 
 impl<V> Covers for GlyphRow<V> {

@@ -2,7 +2,7 @@
 ghost use Rattle.std.specs.Prelude.{◌≡◌, true, is_some, neg_ℤ, pos, ◌/◌};
 ghost use Rattle.std.specs.Option.{option_copied};
 ghost use Rattle.layout_common.specs.Classes.{class_of};
-ghost use Rattle.layout_common.specs.Rows.{value_of};
+ghost use Rattle.layout_common.specs.Rows.{value_of, with_value};
 ghost use Rattle.layout_face.specs.Indices.{indices_fit};
 ghost use Rattle.layout_face.specs.Glyphs.{nominal_glyph, variation_glyph, width_of, height_of, origin_of, name_of, mark_set_has, glyph_class};
 
@@ -10,7 +10,7 @@ use crate::parts::{FaceParts, GlyphDefinition};
 use crate::positioning::PositioningTable;
 use crate::substitution::SubstitutionTable;
 use buffer_glyphs::names::hb_glyph_extents_t;
-use layout_common::glyph_row::find_value;
+use layout_common::glyph_row::{find_value, set_value};
 use std::marker::Model;
 
 /// A font. Lengths are in font units, y grows upward.
@@ -109,6 +109,15 @@ impl Face {
         ensures { result ≡ pos (width_of glyph self.now) }
     {
         i32::from(self.width_of(glyph))
+    }
+
+    /// Sets the advance of a glyph in a horizontal line, in font units, as where a client measures it at a size; whether
+    /// the font gives the glyph one.
+    pub fn set_glyph_h_advance(&mut self, glyph: u16, advance: u16) -> bool
+        ensures found { result ≡ is_some (value_of glyph self.old.h) }
+        ensures set { self.new ≡ record self.old { h = with_value glyph advance self.old.h } }
+    {
+        set_value(&mut self.parts.h, glyph, advance)
     }
 
     fn width_of(&self, glyph: u16) -> u16
