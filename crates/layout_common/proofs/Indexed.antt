@@ -56,7 +56,7 @@ pushed P (x ∷ ws) w old new (suc i) v e = pushed (λ j. P (suc j)) ws w (λ j 
 
 -- ---- the index is asked
 
-not_at : {S : Type 0} (covers : S → ℕ → Bool) (subtables : List S) (words : List ℕ) (row bucket word k g : ℕ) (s : S) → AreIndexed covers subtables words → slice_get words (row * 1024 + bucket) ≡ Some word → bucket ≡ g % 1024 → k / 64 ≡ row
+pub not_at : {S : Type 0} (covers : S → ℕ → Bool) (subtables : List S) (words : List ℕ) (row bucket word k g : ℕ) (s : S) → AreIndexed covers subtables words → slice_get words (row * 1024 + bucket) ≡ Some word → bucket ≡ g % 1024 → k / 64 ≡ row
     → has_bucket word (k % 64) ≡ false → slice_get subtables k ≡ Some s → covers s g ≡ false
 not_at covers subtables words row bucket word k g s indexed there b r none at = by_covered (covers s g) refl
   where

@@ -6,3 +6,4 @@ pub mod Words
 pub mod LowBits
 pub mod Indexed
 pub mod Valued
+pub mod ColumnBits

@@ -40,7 +40,7 @@ not_there i t = let apart : (0 == suc i) ≡ false = grind (arith, nat_tests) in
 next : (j i : ℕ) → (j == i) ≡ (suc j == suc i)
 next j i = grind (arith, nat_tests)
 
-word_set : (ws : List ℕ) (i k v : ℕ) (d : ℕ) → i < length ws → ((b : ℕ) → has_bucket v b ≡ (has_bucket (get_or ws i d) b || b == k)) → (j b : ℕ) → word_has (slice_get (set ws i v) j) b ≡ (word_has (slice_get ws j) b || (j == i && b == k))
+pub word_set : (ws : List ℕ) (i k v : ℕ) (d : ℕ) → i < length ws → ((b : ℕ) → has_bucket v b ≡ (has_bucket (get_or ws i d) b || b == k)) → (j b : ℕ) → word_has (slice_get (set ws i v) j) b ≡ (word_has (slice_get ws j) b || (j == i && b == k))
 word_set [] i k v d lt h j b = absurd (omega (arith, lt))
 word_set (w ∷ ws) zero k v d lt h zero b = h b
 word_set (w ∷ ws) zero k v d lt h (suc j) b = or_false (word_has (slice_get ws j) b) ∙ ap (λ t. word_has (slice_get ws j) b || t) (sym (not_here j (b == k)))

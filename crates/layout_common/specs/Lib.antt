@@ -6,3 +6,4 @@ pub mod Lemmas
 pub mod Bits
 pub mod LowBits
 pub mod Subtables
+pub mod Neighbours

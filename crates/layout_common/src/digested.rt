@@ -4,16 +4,33 @@ ghost use Rattle.std.specs.List.{list_any};
 
 use crate::digest::{hb_set_digest_ext, hb_set_digest_t};
 use crate::low_bits::LowBits;
+use crate::neighbours::Side;
 use std::marker::Model;
 
 /// What can act at some glyphs alone: a row, a rule, a subtable, the subtables of a lookup.
 pub trait Covers {
+    ghost use Rattle.std.specs.Prelude.{Option, None, Some};
+    ghost use Rattle.layout_common.specs.declared.neighbours.Side.{Side};
+
     ghost covers: { Self → ℕ → Bool };
+
+    // whether it may act where a glyph stands beside the one at which it is tried, the nearest on a side that its lookup's
+    // flag doesn't skip, or where none stands there
+    ghost admits: { Self → Side → Option ℕ → Bool } = { λ _ _ _. true };
 
     /// Adds the glyphs at which it can act. What was there stays.
     fn collect<D: hb_set_digest_ext>(&self, digest: &mut D)
         ensures added { (g : ℕ) → covers self.now g ≡ true → D.may_contain digest.new g ≡ true }
         ensures stays { (g : ℕ) → D.may_contain digest.old g ≡ true → D.may_contain digest.new g ≡ true };
+
+    /// Adds the glyphs of which one has to stand on a side, where there are such; whether there are.
+    fn collect_beside<D: hb_set_digest_ext>(&self, side: Side, digest: &mut D) -> bool
+        ensures none { result ≡ true → admits self.now side None ≡ false }
+        ensures added { result ≡ true → (g : ℕ) → admits self.now side (Some g) ≡ true
+            → D.may_contain digest.new g ≡ true }
+    {
+        false
+    }
 }
 
 /// A glyph, as the first item of a rule's input.

@@ -67,7 +67,7 @@ impl GlyphBits {
 }
 
 /// The word at an index, none past the last one.
-fn word_at(words: &[u64], index: usize) -> Option<u64>
+pub(crate) fn word_at(words: &[u64], index: usize) -> Option<u64>
     ensures { result ≡ slice_get words.now index }
 {
     words.get(index).copied()

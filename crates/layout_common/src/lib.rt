@@ -3,6 +3,7 @@
 
 pub mod array;
 pub mod class_definition;
+pub mod columns;
 pub mod coverage;
 pub mod digest;
 pub mod digested;
@@ -11,4 +12,5 @@ pub mod glyph_bits;
 pub mod glyph_row;
 pub mod laws;
 pub mod low_bits;
+pub mod neighbours;
 pub mod subtables;

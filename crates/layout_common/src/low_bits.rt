@@ -1,6 +1,6 @@
 //! Sets of glyphs by the low bits of their numbers; rustybuzz has none.
-ghost use Rattle.std.specs.Prelude.{ℕ, List, [], ◌∷◌, ◌++◌, ◌≡◌, ◌==◌, ◌||◌, ◌%◌, ◌+◌, ◌-◌, ◌≤◌, ◌<◌, ◌↔◌, true, false, set};
-ghost use Rattle.layout_common.specs.Buckets.{numbers_from};
+ghost use Rattle.std.specs.Prelude.{ℕ, List, [], ◌∷◌, ◌++◌, ◌≡◌, ◌==◌, ◌||◌, ◌%◌, ◌*◌, ◌+◌, ◌-◌, ◌≤◌, ◌<◌, ◌↔◌, true, false, set};
+ghost use Rattle.layout_common.specs.Buckets.{has_bucket, numbers_from};
 ghost use Rattle.layout_common.specs.Coverage.{is_covered};
 ghost use Rattle.layout_common.specs.LowBits.{IsLowBitsOf, has_low_bits, shares_low_bits};
 
@@ -41,6 +41,16 @@ fn are_full(words: &[u64; WORDS]) -> bool
         }
     }
     true
+}
+
+impl LowBits {
+    /// The word of 64 buckets at an index.
+    pub(crate) fn word(&self, index: usize) -> u64
+        requires { index < 16 }
+        ensures { (b : ℕ) → b < 64 → has_bucket result b ≡ has_low_bits self.now.words (index * 64 + b) }
+    {
+        self.words[index]
+    }
 }
 
 impl hb_set_digest_ext for LowBits {

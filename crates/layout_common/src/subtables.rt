@@ -1,12 +1,15 @@
 //! The subtables of a lookup, with an index by glyph; rustybuzz has none.
-ghost use Rattle.std.specs.Prelude.{ℕ, ◌≡◌, ◌<◌, ◌≤◌, ◌/◌, ◌%◌, ◌*◌, ◌+◌, ◌≢◌, true, false, IfOk, IfSome, length, Some, slice_get};
+ghost use Rattle.std.specs.Prelude.{ℕ, ◌≡◌, ◌<◌, ◌≤◌, ◌/◌, ◌%◌, ◌*◌, ◌+◌, ◌≢◌, ◌&&◌, true, false, IfOk, IfSome, length, Some, slice_get};
 ghost use Rattle.std.specs.Option.{option_copied};
 ghost use Rattle.layout_common.specs.Buckets.{has_bucket};
+ghost use Rattle.layout_common.specs.Neighbours.{IsClearAt};
 ghost use Rattle.layout_common.specs.Subtables.{HasBits, AreIndexed};
 
 use crate::array::Array;
+use crate::columns::{column_word, columns};
 use crate::digest::{has_bucket, hb_set_digest_ext, with_bucket};
 use crate::digested::{Covers, Digested};
+use crate::neighbours::{Neighbour, Side};
 use std::alloc::{AllocError, Global};
 use std::marker::Model;
 
@@ -28,17 +31,24 @@ pub struct Subtables<S: Covers> {
     /// For each 64 subtables a word for each bucket: bit i is set where the i-th of them may act at a glyph of it. No
     /// words where there are few subtables.
     words: Vec<u64>,
+    /// The index by the glyph before, and by the one after (`columns`).
+    before: Vec<u64>,
+    after: Vec<u64>,
 }
 
 impl<S: Covers> Model for Subtables<S> {
     ghost use Rattle.std.specs.Prelude.{List};
+    ghost use Rattle.layout_common.specs.Neighbours.{AreColumns};
     ghost use Rattle.layout_common.specs.Subtables.{AreIndexed};
+    ghost use Rattle.layout_common.specs.declared.neighbours.Side.TheVariants.{Before, After};
 
     ghost Value = { List S };
 
     ghost view = { λ s. s.items };
 
-    ghost invariant = { λ s. AreIndexed S.covers s.items s.words.items };
+    ghost invariant = { λ s. AreIndexed S.covers s.items s.words.items
+        × AreColumns (λ x. S.admits x Before) s.items s.before.items
+        × AreColumns (λ x. S.admits x After) s.items s.after.items };
 }
 
 impl<S: Covers + Drop> Subtables<S> {
@@ -47,7 +57,14 @@ impl<S: Covers + Drop> Subtables<S> {
         ensures { IfOk result (λ s. s ≡ items) }
     {
         let words = index(alloc, items.as_slice())?;
-        Ok(Subtables { items, words })
+        let before = columns(alloc, items.as_slice(), Side::Before)?;
+        let after = columns(alloc, items.as_slice(), Side::After)?;
+        Ok(Subtables {
+            items,
+            words,
+            before,
+            after,
+        })
     }
 }
 
@@ -87,6 +104,66 @@ impl<S: Covers> Subtables<S> {
             at = next;
         }
         at
+    }
+}
+
+impl<S: Covers> Subtables<S> {
+    ghost use Rattle.layout_common.specs.Neighbours.{may_stand};
+    ghost use Rattle.layout_common.specs.declared.neighbours.Side.TheVariants.{Before, After};
+
+    /// Whether it has an index by the glyph on a side, so that `next_between` leaves out more where that is known.
+    pub fn has_columns(&self, side: Side) -> bool {
+        match side {
+            Side::Before => !self.before.is_empty(),
+            Side::After => !self.after.is_empty(),
+        }
+    }
+
+    /// The word of 64 subtables for a glyph between two others: bit i is clear where the i-th of them can't act there.
+    fn word_between(&self, row: usize, glyph: u16, before: Neighbour, after: Neighbour) -> u64
+        ensures { (k : ℕ) (s : S) → k / 64 ≡ row → slice_get self.now k ≡ Some s → has_bucket result (k % 64) ≡ false
+            → (S.covers s glyph && may_stand (S.admits s Before) before && may_stand (S.admits s After) after) ≡ false }
+    {
+        let own = word_or_full(&self.words, row, usize::from(glyph) % BUCKETS);
+        own & column_word(&self.before, row, before) & column_word(&self.after, row, after)
+    }
+
+    /// The index of a subtable, from one on, that may act at a glyph between two others: those before it can't. Past the
+    /// last one where none can.
+    pub fn next_between(
+        &self,
+        glyph: u16,
+        before: Neighbour,
+        after: Neighbour,
+        from: usize,
+    ) -> usize
+        ensures on { from ≤ result }
+        ensures skipped { (k : ℕ) (s : S) → from ≤ k → k < result → slice_get self.now k ≡ Some s
+            → (S.covers s glyph && may_stand (S.admits s Before) before && may_stand (S.admits s After) after) ≡ false }
+    {
+        let mut at = from;
+        while at < self.items.len() {
+            let word = self.word_between(at / WORD, glyph, before, after);
+            let bit = next_bit(word, (at % WORD) as u32);
+            let next = (at / WORD * WORD).saturating_add(bit as usize);
+            if bit < 64 {
+                return next;
+            }
+            at = next;
+        }
+        at
+    }
+}
+
+/// As `word_of`, with all bits where there is no index.
+#[tactic(auto, using(crate::proofs::ColumnBits::never_clear))]
+fn word_or_full(words: &[u64], row: usize, bucket: usize) -> u64
+    requires { bucket < 1024 }
+    ensures { (b : ℕ) → b < 64 → has_bucket result b ≡ false → IsClearAt words.now (row * 1024 + bucket) b }
+{
+    match word_of(words, row, bucket) {
+        Some(word) => word,
+        None => u64::MAX,
     }
 }
 

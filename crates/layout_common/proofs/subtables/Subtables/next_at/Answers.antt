@@ -6,7 +6,7 @@ pub returns-then-bit-lt64-clause-skipped : goal.returns-then-bit-lt64-clause-ski
 returns-then-bit-lt64-clause-skipped g c =
     let sum = c.saturating_add-next.ensures in
     next_skipped g.S.Covers.covers c.self.inside.items c.args.self.now c.self.inside.words.items c.deref.result.now (c.from-bucket.result % 1024) c.in-Some.word c.args.from c.loop-at.at c.next_bit-bit.result c.saturating_add-next.result c.args.glyph
-    c.self.view_is c.self.invariant c.deref.ensures.value c.in-Some.ensures (ap (λ n. n % 1024) c.from-bucket.ensures) c.next_bit-bit.ensures.none c.next_bit-bit.ensures.within (omega (arith, sum)) c.loop-at.invariant.skipped
+    c.self.view_is c.self.invariant.0 c.deref.ensures.value c.in-Some.ensures (ap (λ n. n % 1024) c.from-bucket.ensures) c.next_bit-bit.ensures.none c.next_bit-bit.ensures.within (omega (arith, sum)) c.loop-at.invariant.skipped
 
 pub loop-at-preserved : goal.loop-at-preserved
 loop-at-preserved g c =
@@ -18,5 +18,5 @@ loop-at-preserved g c =
       on = omega (arith, sum, past, from, fits);
       skipped =
           next_skipped g.S.Covers.covers c.self.inside.items c.args.self.now c.self.inside.words.items c.deref.result.now (c.from-bucket.result % 1024) c.in-Some.word c.args.from c.loop-at.at c.next_bit-bit.result c.saturating_add-next.result c.args.glyph
-          c.self.view_is c.self.invariant c.deref.ensures.value c.in-Some.ensures (ap (λ n. n % 1024) c.from-bucket.ensures) c.next_bit-bit.ensures.none c.next_bit-bit.ensures.within (omega (arith, sum)) c.loop-at.invariant.skipped;
+          c.self.view_is c.self.invariant.0 c.deref.ensures.value c.in-Some.ensures (ap (λ n. n % 1024) c.from-bucket.ensures) c.next_bit-bit.ensures.none c.next_bit-bit.ensures.within (omega (arith, sum)) c.loop-at.invariant.skipped;
     }
