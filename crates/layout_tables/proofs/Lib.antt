@@ -2,3 +2,4 @@ pub mod PairRuns
 pub mod Covering
 mod CoveredRows
 mod Begins
+pub mod Required

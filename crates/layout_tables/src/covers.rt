@@ -1,8 +1,10 @@
 //! The glyphs at which subtables can act, collected for their sets.
 //!
 //! Each type of subtable has its impl, by its own definition; most collect their rows and nothing else.
-ghost use Rattle.std.specs.Prelude.{◌≡◌, ◌==◌};
-ghost use Rattle.layout_tables.specs.Covers.{begins_with, covers_context, covers_entry, covers_first_of_pair, covers_sequence, covers_value};
+ghost use Rattle.std.specs.Prelude.{ℕ, ◌≡◌, ◌==◌, Some, None, true, false, slice_get};
+ghost use Rattle.std.specs.List.{list_any};
+ghost use Rattle.std.specs.Option.{option_copied};
+ghost use Rattle.layout_tables.specs.Covers.{admits_context, begins_with, covers_context, covers_entry, covers_first_of_pair, covers_sequence, covers_value, first_admits, items_on};
 
 use crate::context::{ContextSubtable, SequenceRule};
 use crate::cursive::CursivePos;
@@ -14,6 +16,7 @@ use crate::single_pos::SinglePos;
 use crate::single_subst::SingleSubst;
 use layout_common::digest::hb_set_digest_ext;
 use layout_common::digested::{Covers, collect_each};
+use layout_common::neighbours::Side;
 
 // ---- rows and rules
 
@@ -137,14 +140,81 @@ impl Covers for MarkLigPos {
 
 // ---- contexts
 
+/// The item that a rule requires nearest on a side; none where it requires none there.
+#[tactic(auto, using(crate::proofs::Required::second_there, crate::proofs::Required::second_missing))]
+fn nearest<I>(rule: &SequenceRule<I>, side: Side) -> Option<&I>
+    ensures { option_copied result ≡ slice_get (items_on side rule.now) 0 }
+{
+    match side {
+        Side::Before => rule.backtrack.get(0),
+        Side::After => match rule.input.get(1) {
+            Some(item) => Some(item),
+            None => rule.lookahead.get(0),
+        },
+    }
+}
+
+/// Adds the glyphs of which a rule requires one on a side, where it does; whether it does. What was there stays.
+fn collect_nearest<I: Covers, D: hb_set_digest_ext>(
+    rule: &SequenceRule<I>,
+    side: Side,
+    digest: &mut D,
+) -> bool
+    ensures none { result ≡ true → first_admits I.covers (items_on side rule.now) None ≡ false }
+    ensures added { result ≡ true → (g : ℕ) → first_admits I.covers (items_on side rule.now) (Some g) ≡ true
+        → D.may_contain digest.new g ≡ true }
+    ensures stays { (g : ℕ) → D.may_contain digest.old g ≡ true → D.may_contain digest.new g ≡ true }
+{
+    match nearest(rule, side) {
+        Some(item) => {
+            item.collect(digest);
+            true
+        }
+        None => false,
+    }
+}
+
+/// Adds the glyphs of which one has to stand on a side, where each rule requires one there; whether each does.
+fn collect_beside_rules<I: Covers, D: hb_set_digest_ext>(
+    rules: &[SequenceRule<I>],
+    side: Side,
+    digest: &mut D,
+) -> bool
+    ensures none { result ≡ true → list_any (λ r. first_admits I.covers (items_on side r) None) rules.now ≡ false }
+    ensures added { result ≡ true → (g : ℕ)
+        → list_any (λ r. first_admits I.covers (items_on side r) (Some g)) rules.now ≡ true
+        → D.may_contain digest.new g ≡ true }
+{
+    for rule in rules {
+        if !collect_nearest(rule, side, digest) {
+            return false;
+        }
+    }
+    true
+}
+
 impl Covers for ContextSubtable {
     ghost covers = { covers_context };
+
+    ghost admits = { admits_context };
 
     fn collect<D: hb_set_digest_ext>(&self, digest: &mut D) {
         match self {
             ContextSubtable::Glyphs(rules) => collect_each(rules.as_slice(), digest),
             ContextSubtable::Classes(rules) => Covers::collect(&rules.first, digest),
             ContextSubtable::Coverage(rules) => collect_each(rules.as_slice(), digest),
+        }
+    }
+
+    fn collect_beside<D: hb_set_digest_ext>(&self, side: Side, digest: &mut D) -> bool {
+        match self {
+            ContextSubtable::Glyphs(rules) => collect_beside_rules(rules.as_slice(), side, digest),
+            ContextSubtable::Classes(_) => false,
+            ContextSubtable::Coverage(rules) => collect_beside_rules(
+                rules.as_slice(),
+                side,
+                digest,
+            ),
         }
     }
 }
