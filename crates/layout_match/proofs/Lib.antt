@@ -5,3 +5,4 @@ pub mod Own
 pub mod Law
 pub mod Words
 pub mod Next
+pub mod Beside

@@ -45,7 +45,7 @@ decides_missing s x shown lacks test e admitted =
 
 -- ---- the searches at the cursor, for an item that is visible
 
-visible_shown : (s : Search) (x : Item) → is_default_ignorable x ≡ false → is_skippable s x ≡ false
+pub visible_shown : (s : Search) (x : Item) → is_default_ignorable x ≡ false → is_skippable s x ≡ false
 visible_shown s x seen = rw seen refl
 
 -- what a search tells, by its parameters

@@ -2,6 +2,9 @@
 use Rattle.std.specs.Prelude.{ℕ, ◌≡◌, ◌+◌, Bool, true, false, List, Option, Some, None, Err}
 use Rattle.buffer_glyphs.specs.declared.info.hb_glyph_info_t.{hb_glyph_info_t}
 use Rattle.buffer_glyphs.specs.Items.{Item, item_of}
+use Rattle.layout_common.specs.declared.neighbours.Neighbour.{Neighbour}
+use Rattle.layout_common.specs.declared.neighbours.Neighbour.TheVariants as Known
+use Rattle.buffer_glyphs.specs.PropertyWords.{is_default_ignorable}
 use Rattle.layout_match.specs.declared.search.match_t.{match_t}
 use Rattle.layout_match.specs.declared.search.match_t.TheVariants.{NOT_MATCH}
 use Rattle.layout_match.specs.declared.next_glyph.NextGlyph.{NextGlyph}
@@ -36,3 +39,16 @@ IsAdmitted (Some info) props sets from xs =
     (is_left_out props sets (item_of info) ≡ false)
     × ((s : Search) (test : Item → Bool) → s.props ≡ props → s.sets ≡ sets
     → (at : ℕ) × (nearest_from (answer s test) from xs ≡ by_answer (answer s test (item_of info)) at (nearest_from (answer s test) (at + 1) xs)))
+
+-- a visible glyph is known by its number, and nothing of another
+abbrev pub IsKnown : Neighbour → Item → Type 0
+IsKnown Known.Unknown x = Unit
+IsKnown Known.Missing x = ⊥
+IsKnown (Known.Glyph g) x = (is_default_ignorable x ≡ false) × (x.number ≡ g)
+
+-- what is known of the nearest glyph that the lookup flag admits holds for a search from an index on: it finds no item by
+-- a test that none of the items of this number passes
+abbrev pub IsBeside : Neighbour → Search → ℕ → List Item → Type 0
+IsBeside Known.Unknown s from xs = Unit
+IsBeside Known.Missing s from xs = (test : Item → Bool) → Fails (answer s test) from xs
+IsBeside (Known.Glyph g) s from xs = (test : Item → Bool) → ((x : Item) → x.number ≡ g → test x ≡ false) → Fails (answer s test) from xs

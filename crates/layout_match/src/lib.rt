@@ -7,6 +7,7 @@ pub mod laws;
 pub mod lookup;
 pub mod marking;
 pub mod matching;
+pub mod neighbours;
 pub mod next_glyph;
 pub mod search;
 pub mod sequence;
@@ -17,6 +18,7 @@ pub use apply_context::hb_ot_apply_context_t;
 pub use matching::{
     MAX_CONTEXT_LENGTH, MatchPositions, input_end, match_backtrack, match_input, match_lookahead,
 };
+pub use neighbours::{neighbour_after, neighbour_before};
 pub use next_glyph::{
     NextGlyph, NextGlyphs, flags_failures, next_for_rules, next_glyphs, next_input,
 };

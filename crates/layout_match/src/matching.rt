@@ -51,7 +51,7 @@ pub(crate) fn nearest_ahead<'a>(
 }
 
 /// The glyph behind the cursor with `at` glyphs between.
-fn behind(buffer: &hb_buffer_t, at: usize) -> &hb_glyph_info_t
+pub(crate) fn behind(buffer: &hb_buffer_t, at: usize) -> &hb_glyph_info_t
     requires { at < length buffer.now.behind }
     ensures { slice_get (reverse buffer.now.behind) at ≡ Some result.now }
 {

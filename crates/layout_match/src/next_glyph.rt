@@ -155,7 +155,7 @@ fn next_admitted(
 
 /// The first glyph after the one at the cursor that a lookup flag admits.
 #[tactic(auto, using(crate::proofs::Next::goes_on, crate::proofs::Next::goes_past, crate::proofs::Next::admitted_there, crate::proofs::Next::none_admitted))]
-fn first_admitted<'a>(
+pub(crate) fn first_admitted<'a>(
     face: &Face,
     lookup_props: u32,
     buffer: &'a hb_buffer_t,
