@@ -10,3 +10,4 @@ pub mod Nested
 pub mod Uncovered
 pub mod Ranges
 pub mod Following
+pub mod LeftOut

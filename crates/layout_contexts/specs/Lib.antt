@@ -7,4 +7,5 @@ pub mod Fitting
 pub mod Following
 pub mod Records
 pub mod Rules
+pub mod Neighbours
 pub mod Inside

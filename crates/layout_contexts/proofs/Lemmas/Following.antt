@@ -31,7 +31,7 @@ attempt_unflagged from to r s o unasked e =
     let passed : IsPassed (Concat from to ∷ []) s s = record { cut_is = refl; happened = ap (λ b. concat_marked b from to (origins_of s)) (sym unasked); still = refl; read = refl } in
     subst P (sym e) (refl, refl, passed)
 
-tries_nothing : (r : ℕ) (s : Sides) (o : Outcome) → (flag_requests_of s).concat ≡ false → OnlyTries o → IsPerformed o false r r s s
+pub tries_nothing : (r : ℕ) (s : Sides) (o : Outcome) → (flag_requests_of s).concat ≡ false → OnlyTries o → IsPerformed o false r r s s
 tries_nothing r s o unasked (inl e) = passes_nothing r s o e
 tries_nothing r s o unasked (inr tries) = attempt_unflagged tries.0 tries.1 r s o unasked tries.2
 
