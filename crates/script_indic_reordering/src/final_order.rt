@@ -15,7 +15,7 @@ use crate::script::IndicMasks;
 use crate::words::mask_words;
 use buffer_core::buffer::hb_buffer_t;
 use buffer_glyphs::info::hb_mask_t;
-use buffer_stages::parts::first_to_back;
+use buffer_stages::moves::move_back;
 use buffer_stages::walk::{SyllableRule, each_syllable};
 use script_categories::hb_ot_script_shaper_t::INDIC_SHAPER;
 use script_categories::ot_position_t::Position;
@@ -97,7 +97,7 @@ fn move_reph(
         return base;
     }
     let passed = passed_by_reph(glyphs, reph_pos, base);
-    first_to_back(buffer, start, start + passed, 1);
+    move_back(buffer, start, start + 1, start + passed);
     base_passed(passed, base)
 }
 
@@ -125,5 +125,5 @@ fn move_pref(mask: hb_mask_t, buffer: &mut hb_buffer_t, start: usize, end: usize
         return;
     };
     let to = pref_target(glyphs, base);
-    first_to_back(buffer, start + to, start + (i + 1), i - to);
+    move_back(buffer, start + to, start + i, start + (i + 1));
 }

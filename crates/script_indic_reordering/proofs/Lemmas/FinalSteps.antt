@@ -10,6 +10,7 @@ use Rattle.buffer_core.specs.Readings.{BufferState, View, always}
 use Rattle.buffer_core.specs.Merging.{index_in_all, with_merged}
 use Rattle.buffer_core.specs.Sides.{Sides, all_glyphs, items_of, origins_by, origins_of, view_of}
 use Rattle.buffer_stages.specs.Ready.{IsReady}
+use Rattle.buffer_stages.specs.Moves.{with_move}
 use Rattle.buffer_stages.specs.Stages.{IsFollowed}
 use Rattle.buffer_stages.proofs.Lemmas.Counts.{rewritten_even}
 use Rattle.buffer_stages.specs.Lemmas.Shifts.{shift_none}
@@ -20,7 +21,7 @@ use Rattle.buffer_stages.specs.Parts.{first_to_back}
 use Rattle.buffer_stages.specs.SyllableBuffers.{IsRewritten, with_rule}
 use Rattle.buffer_stages.proofs.Lemmas.Happened.{merge_happens}
 use Rattle.buffer_stages.specs.Lemmas.Rewritings.{counted, origins_then, rewritten_next, rewritten_same}
-use Rattle.buffer_stages.specs.Lemmas.Parts.{range_size, rewritten_part}
+use Rattle.buffer_stages.specs.Lemmas.Parts.{move_rewrites, range_size, rewritten_part}
 use Rattle.script_indic_reordering.specs.Glyphs.{is_left}
 use Rattle.script_indic_reordering.specs.Indices.{begins_with, first_at}
 use Rattle.script_indic_reordering.specs.Final.{RephMoved, after_halant, base_passed, begins_with_reph, final_reordered, formed_base, last_halant, left_before, lefts_last, lefts_merged, lefts_moved, lefts_moved_by, lefts_moved_from, merged_to_base, passed_by_reph, pref_form, pref_moved, pref_moved_from, pref_target, reph_moved, then_pref}
@@ -111,7 +112,7 @@ form_none bits start end base gs a e ready le none =
 
 pub form_moves : (bits start end base i to : ℕ) (gs : List hb_glyph_info_t) (a b : Sides) → gs ≡ all_glyphs a → start + base ≤ end → end ≤ length (all_glyphs a) → pref_form bits base (strip (slice_range gs start end)) ≡ Some i
     → to ≡ pref_target base (strip (slice_range gs start end)) (last_halant base (strip (slice_range gs start end)))
-    → IsRewritten (first_to_back (i - to) (slice_range (items_of a) (start + to) (start + (i + 1)))) (start + to) (start + (i + 1)) a b
+    → IsFollowed (always (with_move (start + to) (start + i - (start + to)) (start + (i + 1) - (start + i)))) a b
     → IsRewritten (pref_moved bits base (slice_range (items_of a) start end)) start end a b
 form_moves bits start end base i to gs a b e le fits some at g =
     let xs = slice_range (items_of a) start end in
@@ -122,8 +123,10 @@ form_moves bits start end base i to gs a b e le fits some at g =
     let t = target_within base xs (last_halant base xs) refl in
     let inside : end ≤ length (items_of a) = omega (arith, counted a, fits) in
     let size = range_size start end (items_of a) (omega (arith, le)) inside in
+    let turned : IsRewritten (first_to_back (i - to) (slice_range (items_of a) (start + to) (start + (i + 1)))) (start + to) (start + (i + 1)) a b =
+    move_rewrites (start + to) (start + (i + 1)) (i - to) (start + i) a b (omega (arith, w.0, t, to_is)) (omega (arith, w.0, t, to_is)) (omega (arith, w.1, size, inside, le)) g in
     let part : IsRewritten (within to (i + 1) (first_to_back (i - to)) xs) start end a b =
-    rewritten_part (first_to_back (i - to)) start end to (i + 1) (start + to) (start + (i + 1)) a b refl refl (omega (arith, w.0, t, to_is)) (omega (arith, w.1, size, le)) inside g in
+    rewritten_part (first_to_back (i - to)) start end to (i + 1) (start + to) (start + (i + 1)) a b refl refl (omega (arith, w.0, t, to_is)) (omega (arith, w.1, size, le)) inside turned in
     subst (λ o. IsRewritten (pref_moved_from base xs o) start end a b) (sym is) (subst (λ n. IsRewritten (within n (i + 1) (first_to_back (i - n)) xs) start end a b) to_is part)
 
 -- ---- the reph
@@ -147,17 +150,19 @@ passed_seen : (reph_pos start end base n : ℕ) (gs : List hb_glyph_info_t) (a :
 passed_seen reph_pos start end base n gs a e f = f ∙ ap (passed_by_reph reph_pos base) (seen_in start end gs a e)
 
 pub reph_moves : (reph_pos start end base n : ℕ) (gs : List hb_glyph_info_t) (a b : Sides) → gs ≡ all_glyphs a → start + base ≤ end → end ≤ length (all_glyphs a) → begins_with_reph (strip (slice_range gs start end)) ≡ true
-    → n ≡ passed_by_reph reph_pos base (strip (slice_range gs start end)) → IsRewritten (first_to_back 1 (slice_range (items_of a) start (start + n))) start (start + n) a b
+    → n ≡ passed_by_reph reph_pos base (strip (slice_range gs start end)) → 0 < n → IsFollowed (always (with_move start (start + 1 - start) (start + n - (start + 1)))) a b
     → IsRewritten (reph_moved reph_pos base (slice_range (items_of a) start end)).rewritten start end a b
-reph_moves reph_pos start end base n gs a b e le fits some at g =
+reph_moves reph_pos start end base n gs a b e le fits some at first g =
     let xs = slice_range (items_of a) start end in
     let is = reph_seen start end true gs a e some in
     let n_is = passed_seen reph_pos start end base n gs a e at in
     let inside : end ≤ length (items_of a) = omega (arith, counted a, fits) in
     let size = range_size start end (items_of a) (omega (arith, le)) inside in
     let few = passed_within reph_pos base xs (reph_some xs is) in
+    let turned : IsRewritten (first_to_back 1 (slice_range (items_of a) start (start + n))) start (start + n) a b =
+    move_rewrites start (start + n) 1 (start + 1) a b refl (omega (arith, first)) (omega (arith, few, n_is, size, inside, le)) g in
     let part : IsRewritten (within 0 n (first_to_back 1) xs) start end a b =
-    rewritten_part (first_to_back 1) start end 0 n start (start + n) a b (omega arith) refl (omega arith) (omega (arith, few, n_is, size, le)) inside g in
+    rewritten_part (first_to_back 1) start end 0 n start (start + n) a b (omega arith) refl (omega arith) (omega (arith, few, n_is, size, le)) inside turned in
     subst (λ (m : RephMoved). IsRewritten m.rewritten start end a b) (sym (ap (reph_moved_if reph_pos base xs) is)) (subst (λ k. IsRewritten (within 0 k (first_to_back 1) xs) start end a b) n_is part)
 
 pub reph_moves_base : (reph_pos start end base n k : ℕ) (gs : List hb_glyph_info_t) (a : Sides) → gs ≡ all_glyphs a → begins_with_reph (strip (slice_range gs start end)) ≡ true → n ≡ passed_by_reph reph_pos base (strip (slice_range gs start end)) → k ≡ base_passed n base

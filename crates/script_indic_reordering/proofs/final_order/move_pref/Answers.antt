@@ -12,4 +12,4 @@ pub returns : goal.returns
 returns c =
     let a = c.args in
     let r = c.requires in
-    form_moves a.mask a.start a.end a.base _ c.pref_target-to.result c.info_slice.result.now a.buffer.now c.first_to_back.new.buffer c.info_slice.ensures r.ordered r.within (sym c.pref_form.ensures.value ∙ c.in-Some.is) c.pref_target-to.ensures.index c.first_to_back.ensures
+    form_moves a.mask a.start a.end a.base _ c.pref_target-to.result c.info_slice.result.now a.buffer.now c.move_back.new.buffer c.info_slice.ensures r.ordered r.within (sym c.pref_form.ensures.value ∙ c.in-Some.is) c.pref_target-to.ensures.index c.move_back.ensures

@@ -15,7 +15,7 @@ pub returns-clause-rewritten : goal.returns-clause-rewritten
 returns-clause-rewritten c =
     let a = c.args in
     let r = c.requires in
-    reph_moves a.reph_pos a.start a.end a.base c.passed_by_reph-passed.result c.info_slice.result.now a.buffer.now c.first_to_back.new.buffer c.info_slice.ensures r.ordered r.within (sym c.begins_with_reph.ensures ∙ c.if-not-begins_with_reph.false) c.passed_by_reph-passed.ensures.count c.first_to_back.ensures
+    reph_moves a.reph_pos a.start a.end a.base c.passed_by_reph-passed.result c.info_slice.result.now a.buffer.now c.move_back.new.buffer c.info_slice.ensures r.ordered r.within (sym c.begins_with_reph.ensures ∙ c.if-not-begins_with_reph.false) c.passed_by_reph-passed.ensures.count c.passed_by_reph-passed.ensures.some c.move_back.ensures
 
 pub returns-clause-base : goal.returns-clause-base
 returns-clause-base c =
