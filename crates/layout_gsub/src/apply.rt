@@ -1,6 +1,6 @@
 //! The trait of substitution subtables, and the first of several that matches (rustybuzz: hb/ot_layout_gsubgpos.rs,
 //! `Apply`).
-ghost use Rattle.std.specs.Prelude.{ℕ, ◌≡◌, ◌<◌, ◌≤◌, ◌∷◌, [], length};
+ghost use Rattle.std.specs.Prelude.{ℕ, ◌≡◌, ◌<◌, ◌≤◌, length};
 ghost use Rattle.layout_match.specs.Applied.{ApplyContext, apply_context_of};
 ghost use Rattle.layout_gsub.specs.Passing.{ArePassing};
 ghost use Rattle.buffer_stages.specs.Actions.{Action, first_rule};
@@ -95,24 +95,9 @@ pub fn apply_first<S: Skippable>(
 {
     // The glyphs of a lookup's only subtable are the lookup's own, and were tested.
     match subtables.as_slice() {
-        [subtable] => apply_only(subtable, ctx, buffer),
+        [subtable] => subtable.inner().apply(ctx, buffer),
         _ => apply_each(subtables, ctx, buffer),
     }
-}
-
-/// Applies a lookup's only subtable at the cursor.
-fn apply_only<S: Skippable>(
-    subtable: &Digested<S>,
-    ctx: &mut hb_ot_apply_context_t,
-    buffer: &mut hb_buffer_t,
-) -> Result<bool, ShapeCause>
-    requires current_glyph { HasCurrentGlyph buffer.old }
-    ensures performs { Performs (first_rule (λ s. S.action s (apply_context_of ctx.old)) (subtable.now ∷ [])
-        (cut_with ctx.old.random_state buffer.old)) result ctx.old.random_state ctx.new.random_state buffer.old
-        buffer.new }
-    ensures context { apply_context_of ctx.new ≡ apply_context_of ctx.old }
-{
-    subtable.inner().apply(ctx, buffer)
 }
 
 /// Applies the first matching one of several subtables at the cursor. Those that can't act at the glyph there aren't

@@ -69,3 +69,9 @@ before_none (Refuses cause) = refl
 -- the first of one rule is that rule
 pub only_first : {R : Type 0} (act : R → Action) (x : R) (c : Cut) → first_rule act (x ∷ []) c ≡ act x c
 only_first act x c = before_none (act x c)
+
+-- the one of a list that has no other
+pub only_one : {R : Type 0} (xs : List R) (x : R) → 1 ≤ length xs → length xs < 2 → x ≡ get_or xs 0 x → xs ≡ x ∷ []
+only_one [] x some few at = absurd (omega (arith, some))
+only_one (y ∷ []) x some few at = ap (λ z. z ∷ []) (sym at)
+only_one (y ∷ z ∷ ys) x some few at = absurd (omega (arith, few))
