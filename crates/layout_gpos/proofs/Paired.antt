@@ -22,21 +22,30 @@ use Rattle.buffer_stages.proofs.Lemmas.Glyphs.{first_item}
 use Rattle.buffer_stages.proofs.Lemmas.Performed.{passes_nothing}
 use Rattle.buffer_stages.proofs.Lemmas.Attempts.{cut_with_glyphs}
 use Rattle.layout_gpos.specs.Moving.{break_around, strict_break_around}
-use Rattle.layout_gpos.specs.Values.{is_zero}
 use Rattle.layout_tables.specs.Covers.{covers_first_of_pair}
-use Rattle.layout_gpos.specs.Pairs.{has_no_effect, next_item, pair_adjusted, pair_events, pair_from, pair_length, pair_of, pair_second, pair_subtable, pair_values}
+use Rattle.layout_gpos.specs.Pairs.{next_item, null_pair_events, pair_adjusted, pair_events, pair_from, pair_has_no_effect, pair_length, pair_of, pair_second, pair_subtable, pair_values, takes_glyphs}
 use Rattle.layout_gpos.proofs.Lemmas.Placed.{break_passed, front_count}
 use Rattle.layout_gpos.proofs.Lemmas.Performed.{marked_made}
 use Rattle.buffer_stages.proofs.Reversed.{got_strip as item_at}
 
 -- ---- a pair
 
--- the events of a pair, by whether it has no effect
-abbrev events_by : Bool → ℕ → Cut → List Event
-events_by none apart c = if none then strict_break_around (apart + 1) c else break_around 0 (apart + 1) c
+-- the events of a null pair, by whether it takes its glyphs from other pairs
+abbrev null_events_by : Bool → ℕ → Cut → List Event
+null_events_by takes apart c = if takes then strict_break_around (apart + 1) c else []
 
-pub pair_marked : (v : PairValues) (apart : ℕ) (s new : Sides) → (is_zero v.first && has_no_effect v.second) ≡ false → IsPassed (Break (length s.behind - 0) (length s.behind + (apart + 1)) ∷ []) s new → IsPassed (pair_events v apart (cut_of s)) s new
-pair_marked v apart s new e p = subst (λ (b : Bool). IsPassed (events_by b apart (cut_of s)) s new) (sym e) (break_passed 0 (apart + 1) s new p)
+-- the events of a pair, by whether it is null
+abbrev events_by : Bool → PairValues → ℕ → Cut → List Event
+events_by null v apart c = if null then null_pair_events apart v.second c else break_around 0 (apart + 1) c
+
+pub pair_marked : (v : PairValues) (apart : ℕ) (s new : Sides) → pair_has_no_effect v ≡ false → IsPassed (Break (length s.behind - 0) (length s.behind + (apart + 1)) ∷ []) s new → IsPassed (pair_events v apart (cut_of s)) s new
+pair_marked v apart s new e p = subst (λ (b : Bool). IsPassed (events_by b v apart (cut_of s)) s new) (sym e) (break_passed 0 (apart + 1) s new p)
+
+pub null_pair_marked : (v : PairValues) (apart : ℕ) (s new : Sides) → pair_has_no_effect v ≡ true → IsPassed (null_pair_events apart v.second (cut_of s)) s new → IsPassed (pair_events v apart (cut_of s)) s new
+null_pair_marked v apart s new e p = subst (λ (b : Bool). IsPassed (events_by b v apart (cut_of s)) s new) (sym e) p
+
+pub null_pair_unmarked : (second : Option ValueRecord) (apart : ℕ) (s : Sides) → takes_glyphs apart second ≡ false → IsPassed (null_pair_events apart second (cut_of s)) s s
+null_pair_unmarked second apart s e = subst (λ (b : Bool). IsPassed (null_events_by b apart (cut_of s)) s s) (sym e) (record { cut_is = refl; happened = refl; still = refl; read = refl })
 
 strictly_passed : (from to : ℕ) (s : Sides) (b : Bool) → from ≤ to → origins_of (if b then with_flagged_apart 3 from to s else s) ≡ origins_by (StrictBreak from to ∷ []) s
     → IsPassed (StrictBreak from to ∷ []) s (if b then with_flagged_apart 3 from to s else s)
@@ -48,9 +57,9 @@ strictly_passed from to s true le happened = record {
 }
 strictly_passed from to s false le happened = record { cut_is = refl; happened = happened; still = refl; read = refl }
 
-pub pair_strictly_marked : (v : PairValues) (apart at : ℕ) (s new : Sides) → (is_zero v.first && has_no_effect v.second) ≡ true → at ≡ s.read → new ≡ strictly_marked (Some at) (Some (at + apart + 1)) s
-    → origins_of new ≡ origins_by (StrictBreak (start_in_all (Some at) s) (end_in_all (Some (at + apart + 1)) s) ∷ []) s → IsPassed (pair_events v apart (cut_of s)) s new
-pair_strictly_marked v apart at s new e here is happened =
+pub pair_strictly_marked : (second : Option ValueRecord) (apart at : ℕ) (s new : Sides) → takes_glyphs apart second ≡ true → at ≡ s.read → new ≡ strictly_marked (Some at) (Some (at + apart + 1)) s
+    → origins_of new ≡ origins_by (StrictBreak (start_in_all (Some at) s) (end_in_all (Some (at + apart + 1)) s) ∷ []) s → IsPassed (null_pair_events apart second (cut_of s)) s new
+pair_strictly_marked second apart at s new e here is happened =
     let from = length s.behind in
     let to = length s.behind + (apart + 1) in
     let end = end_in_all (Some (at + apart + 1)) s in
@@ -63,7 +72,7 @@ pair_strictly_marked v apart at s new e here is happened =
     happened ∙ ap (λ (k : ℕ). origins_by (StrictBreak k end ∷ []) s) start_is ∙ ap (λ (k : ℕ). origins_by (StrictBreak from k ∷ []) s) end_is in
     let passed = subst (λ (t : Sides). IsPassed (StrictBreak from to ∷ []) s t) (sym same) (strictly_passed from to s b (omega arith) (ap origins_of (sym same) ∙ events)) in
     let cut = subst (λ (k : ℕ). IsPassed (StrictBreak k (k + (apart + 1)) ∷ []) s new) (sym (length-map s.behind item_of)) passed in
-    subst (λ (t : Bool). IsPassed (events_by t apart (cut_of s)) s new) (sym e) cut
+    subst (λ (t : Bool). IsPassed (null_events_by t apart (cut_of s)) s new) (sym e) cut
 
 pair_long : (apart : ℕ) (o : Option ValueRecord) (count : ℕ) → 0 < apart → apart < count → (0 < pair_length apart o) × (pair_length apart o ≤ count)
 pair_long apart None count some lt = (some, omega (arith, lt))

@@ -1,5 +1,5 @@
 -- Pair adjustment (OpenType, GPOS lookup type 2).
-use Rattle.std.specs.Prelude.{ℕ, ◌+◌, ◌&&◌, Bool, true, not, if◌then◌else◌, List, [], length, Option, Some, None, Result, Ok, Err, slice_get, option_and_then}
+use Rattle.std.specs.Prelude.{ℕ, ◌+◌, ◌&&◌, ◌||◌, nat_lt, Bool, true, not, if◌then◌else◌, List, [], length, Option, Some, None, is_some, Result, Ok, Err, slice_get, option_and_then}
 use Rattle.buffer_common.specs.declared.direction.Direction.{Direction}
 use Rattle.buffer_glyphs.specs.Items.{Item, Position}
 use Rattle.buffer_glyphs.specs.Events.{Event}
@@ -22,10 +22,6 @@ abbrev pub second_adjusted : Direction → ℕ → Option ValueRecord → List P
 second_adjusted d i None ps = ps
 second_adjusted d i (Some v) ps = with_adjusted_position d i v ps
 
--- two glyphs adjusted by the values of a pair
-abbrev pub pair_adjusted : Direction → ℕ → ℕ → PairValues → List Position → List Position
-pair_adjusted d first second v ps = second_adjusted d second v.second (with_adjusted_position d first v.first ps)
-
 -- the length of a pair: after a second glyph with a record the cursor is after it; without one that glyph may begin the
 -- next pair
 abbrev pub pair_length : ℕ → Option ValueRecord → ℕ
@@ -37,10 +33,26 @@ abbrev pub has_no_effect : Option ValueRecord → Bool
 has_no_effect None = true
 has_no_effect (Some v) = is_zero v
 
--- the events of a pair: with a record that isn't zero it is unsafe to break; with none, it takes its glyphs from other
--- pairs, and is so where PRODUCE_SAFE_BREAKS is requested
+-- whether a pair is null: no value of its records (PairPos formats 1 and 2) moves a glyph
+abbrev pub pair_has_no_effect : PairValues → Bool
+pair_has_no_effect v = is_zero v.first && has_no_effect v.second
+
+-- two glyphs adjusted by the values of a pair; a null pair leaves them as they are
+abbrev pub pair_adjusted : Direction → ℕ → ℕ → PairValues → List Position → List Position
+pair_adjusted d first second v ps = if pair_has_no_effect v then ps else second_adjusted d second v.second (with_adjusted_position d first v.first ps)
+
+-- whether a null pair takes its glyphs from other pairs: glyphs between the two were skipped, or the second has a record (valueFormat2
+-- isn't 0), so that the cursor is after it. Else the cursor is at the glyph after the first, as where there is no pair
+abbrev pub takes_glyphs : ℕ → Option ValueRecord → Bool
+takes_glyphs apart second = nat_lt 1 apart || is_some second
+
+-- the events of a null pair: where it takes its glyphs from other pairs, they are unsafe to break if PRODUCE_SAFE_BREAKS is requested
+abbrev pub null_pair_events : ℕ → Option ValueRecord → Cut → List Event
+null_pair_events apart second c = if takes_glyphs apart second then strict_break_around (apart + 1) c else []
+
+-- the events of a pair: its glyphs are unsafe to break, unless it is null
 abbrev pub pair_events : PairValues → ℕ → Cut → List Event
-pair_events v apart c = if is_zero v.first && has_no_effect v.second then strict_break_around (apart + 1) c else break_around 0 (apart + 1) c
+pair_events v apart c = if pair_has_no_effect v then null_pair_events apart v.second c else break_around 0 (apart + 1) c
 
 -- the item that is `apart` items after the cut is the second: where the two are no pair, all items from the first to it are unsafe to
 -- concat

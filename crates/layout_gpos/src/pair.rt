@@ -1,5 +1,5 @@
 //! Pair adjustment (OpenType, GPOS lookup type 2; rustybuzz: hb/ot_layout_gpos_table.rs, `PairAdjustment`).
-ghost use Rattle.std.specs.Prelude.{ℕ, ◌≡◌, ◌<◌, ◌≤◌, ◌+◌, ◌==◌, ◌&&◌, IfErr, IfOk, None, Some, [], false, if◌then◌else◌, length};
+ghost use Rattle.std.specs.Prelude.{ℕ, ◌≡◌, ◌<◌, ◌≤◌, ◌+◌, ◌==◌, IfErr, IfOk, None, Some, [], false, if◌then◌else◌, length};
 ghost use Rattle.std.specs.List.{list_any};
 ghost use Rattle.buffer_stages.specs.Actions.{Passes};
 ghost use Rattle.buffer_stages.specs.Ready.{IsAtGlyphPosition, IsAtPosition};
@@ -8,9 +8,8 @@ ghost use Rattle.buffer_glyphs.specs.Items.{strip};
 ghost use Rattle.layout_match.specs.Applied.{apply_context_of};
 ghost use Rattle.buffer_stages.specs.Buffers.{IsPassed, cut_of};
 ghost use Rattle.buffer_stages.specs.Performing.{IsPerformed, cut_with};
-ghost use Rattle.layout_gpos.specs.Values.{is_zero};
 ghost use Rattle.layout_tables.specs.Covers.{covers_first_of_pair};
-ghost use Rattle.layout_gpos.specs.Pairs.{has_no_effect, next_item, pair_adjusted, pair_events, pair_length, pair_of, pair_second, pair_subtable, pair_values};
+ghost use Rattle.layout_gpos.specs.Pairs.{has_no_effect, next_item, null_pair_events, pair_adjusted, pair_events, pair_has_no_effect, pair_length, pair_of, pair_second, pair_subtable, pair_values, takes_glyphs};
 
 use crate::apply::Apply;
 use crate::bases::LastSearches;
@@ -102,7 +101,7 @@ fn has_no_effect(value: Option<ValueRecord>) -> bool
 }
 
 fn pair_has_no_effect(values: PairValues) -> bool
-    ensures { result ≡ (is_zero values.first && has_no_effect values.second) }
+    ensures { result ≡ pair_has_no_effect values }
 {
     is_zero(values.first) && has_no_effect(values.second)
 }
@@ -119,9 +118,31 @@ fn pair_length(apart: usize, value: Option<ValueRecord>) -> usize
     }
 }
 
-/// Flags a pair as unsafe to break where it has a value record that isn't zero; else where PRODUCE_SAFE_BREAKS is set,
-/// since it takes its glyphs from other pairs.
-#[tactic(auto, using(crate::proofs::Paired::pair_marked))]
+/// Whether a null pair takes its glyphs from other pairs: a glyph was skipped between the two, or the second one has a
+/// record.
+fn takes_glyphs(apart: usize, second: Option<ValueRecord>) -> bool
+    ensures { result ≡ takes_glyphs apart second }
+{
+    apart > 1 || second.is_some()
+}
+
+/// Flags a null pair as unsafe to break, where PRODUCE_SAFE_BREAKS is set and it takes its glyphs from other pairs.
+#[tactic(auto, using(crate::proofs::Paired::null_pair_unmarked))]
+fn mark_null_pair(second: Option<ValueRecord>, apart: usize, buffer: &mut hb_buffer_t)
+    requires closed { buffer.old.is_open ≡ false }
+    requires within { apart < length buffer.old.ahead }
+    ensures { IsPassed (null_pair_events apart second (cut_of buffer.old)) buffer.old buffer.new }
+{
+    // The number of glyphs bounds `apart + 1`.
+    let _end = buffer.len();
+    if takes_glyphs(apart, second) {
+        let first = buffer.idx();
+        buffer.unsafe_to_break_strictly(Some(first), Some(first + apart + 1));
+    }
+}
+
+/// Flags a pair as unsafe to break, unless it is null.
+#[tactic(auto, using(crate::proofs::Paired::pair_marked, crate::proofs::Paired::null_pair_marked))]
 fn mark_pair(values: PairValues, apart: usize, buffer: &mut hb_buffer_t)
     requires closed { buffer.old.is_open ≡ false }
     requires within { apart < length buffer.old.ahead }
@@ -130,14 +151,14 @@ fn mark_pair(values: PairValues, apart: usize, buffer: &mut hb_buffer_t)
     // The number of glyphs bounds `apart + 1`.
     let _end = buffer.len();
     if pair_has_no_effect(values) {
-        let first = buffer.idx();
-        buffer.unsafe_to_break_strictly(Some(first), Some(first + apart + 1));
+        mark_null_pair(values.second, apart, buffer);
     } else {
         mark_match(0, apart + 1, buffer);
     }
 }
 
-/// Applies the first value record, and the second one to the second glyph of the pair where there is one.
+/// Applies the first value record, and the second one to the second glyph of the pair where there is one; no-op for a
+/// null pair.
 fn adjust_pair(buffer: &mut hb_buffer_t, first: usize, apart: usize, values: PairValues)
     requires closed { buffer.old.is_open ≡ false }
     requires second { first + apart < length buffer.old.positions }
@@ -146,6 +167,9 @@ fn adjust_pair(buffer: &mut hb_buffer_t, first: usize, apart: usize, values: Pai
           values buffer.old.positions;
     } }
 {
+    if pair_has_no_effect(values) {
+        return;
+    }
     // The number of positions bounds `first + apart`.
     let _count = buffer.pos_slice().len();
     adjust_glyph(buffer, first, values.first);
