@@ -1,6 +1,8 @@
 -- Contexts are local where the lookups nested in them are.
 use Rattle.std.proofs.Common.{ℕ, ◌≡◌, ◌≤◌, ◌<◌, ◌+◌, ◌-◌, ◌&&◌, inl, inr, Bool, true, false, nat_le, min, if◌then◌else◌, List, [], ◌∷◌, Option, Result, Ok, Err, length, map, drop, reverse, arith, refl, ap, sym, subst, ◌∙◌}
-use Rattle.std.proofs.lemmas.List.{length-append, length-reverse}
+use Rattle.std.proofs.lemmas.List.{length-append, length-map, length-reverse}
+use Rattle.buffer_facts.proofs.Numbers.{at_most_by_test}
+use Rattle.buffer_facts.proofs.Truth.{second_true}
 use Rattle.buffer_glyphs.specs.declared.cause.ShapeCause.TheVariants.{TooLong}
 use Rattle.buffer_glyphs.specs.Items.{Item}
 use Rattle.buffer_glyphs.specs.Events.{Event, Break, Concat}
@@ -10,7 +12,8 @@ use Rattle.layout_tables.specs.declared.context.ClassRules.{ClassRules}
 use Rattle.layout_tables.specs.declared.context.SequenceRule.{SequenceRule}
 use Rattle.buffer_stages.specs.Actions.{Cut, whole, Outcome, Passes, Acts, Refuses, Action, later, first_rule, attempt_around}
 use Rattle.layout_match.specs.Applied.{ApplyContext, own_search, context_search}
-use Rattle.layout_match.specs.Matches.{answers_of, sequence_end, input_indices, indices}
+use Rattle.layout_match.specs.Matches.{answers_of, sequence_end, input_indices, indices, nearest_from, with_index}
+use Rattle.layout_match.specs.Searches.{answer}
 use Rattle.layout_match.specs.Sequences.{is_covered_by}
 use Rattle.layout_match.specs.declared.search.match_t.{match_t}
 use Rattle.layout_contexts.specs.MatchIndices.{AreRising}
@@ -86,6 +89,19 @@ rising_plus low high n (p ∷ ps) h = (omega (arith, h.0), omega (arith, h.1), s
     plus_one : (a b : ℕ) → a + 1 + b ≡ a + b + 1
     plus_one a b = omega arith
 
+-- a match has no more indices than tests
+with_index_few : (n : ℕ) (r : Result ℕ ℕ) (next : ℕ → List ℕ) → ((at : ℕ) → length (next at) ≤ n) → length (with_index r next) ≤ n + 1
+with_index_few n (Ok at) next k = let few = k (at + 1) in omega (arith, few)
+with_index_few n (Err end) next k = omega arith
+
+indices_few : (asks : List (Item → match_t)) (at : ℕ) (xs : List Item) → length (indices asks at xs) ≤ length asks
+indices_few [] at xs = omega arith
+indices_few (ask ∷ asks) at xs = let few = with_index_few (length asks) (nearest_from ask at xs) (λ next. indices asks next xs) (λ next. indices_few asks next xs) in omega (arith, few)
+
+rest_few : (tests : List (Item → Bool)) (n : ℕ) → 0 < n → length tests ≤ n → length (drop 1 tests) + 1 ≤ n
+rest_few [] n some le = omega (arith, some)
+rest_few (test ∷ tests) n some le = omega (arith, le)
+
 -- ---- a chain
 
 -- the tests of a rule read no ligature number
@@ -121,11 +137,21 @@ module _ (P : Placing) (over : IsOfWhole P) (nest : Option (ℕ → Action)) (in
       break_over P o s here (length there.front - back) (length there.front + ahead) (nested_lookups nest a r end there) (Passes ours) (matched_never (each_nested nest r.records there (map (λ k. k + length there.front) (input_indices (own_search a there.rest) (drop 1 r.input) there.rest)) (length there.front + end)))
       (λ es. inl (inr (omega (arith, at, size), omega (arith, at, size, past), omega (arith, at, size, within, long))))
 
+  -- the indices of a match
+  short_match : length r.input ≤ 64 → length (map (λ k. k + length c.front) (0 ∷ indices (answers_of (own_search a (x ∷ xs)) (drop 1 r.input)) 1 (x ∷ xs))) ≤ 64
+  short_match few =
+      let asks = answers_of (own_search a (x ∷ xs)) (drop 1 r.input) in
+      let ours = indices asks 1 (x ∷ xs) in
+      let found = indices_few asks 1 (x ∷ xs) in
+      let asked : length asks ≡ length (drop 1 r.input) = length-map (drop 1 r.input) (answer (own_search a (x ∷ xs))) in
+      let less = rest_few r.input 64 (omega arith) few in
+      omega (arith, length-map (0 ∷ ours) (λ (k : ℕ). k + length c.front), found, asked, less)
+
   -- the backtrack sequence, where input and lookahead match inside the fragment
-  backtrack_beside : (end ahead : ℕ) → LiesWithin 1 end (length {A = Item} (x ∷ xs)) (indices (answers_of (own_search a (x ∷ xs)) (drop 1 r.input)) 1 (x ∷ xs)) → end ≤ ahead → ahead ≤ length {A = Item} (x ∷ xs)
+  backtrack_beside : length r.input ≤ 64 → (end ahead : ℕ) → LiesWithin 1 end (length {A = Item} (x ∷ xs)) (indices (answers_of (own_search a (x ∷ xs)) (drop 1 r.input)) 1 (x ∷ xs)) → end ≤ ahead → ahead ≤ length {A = Item} (x ∷ xs)
       → indices (answers_of (own_search a (x ∷ xs)) (drop 1 r.input)) 1 there.rest ≡ indices (answers_of (own_search a (x ∷ xs)) (drop 1 r.input)) 1 (x ∷ xs) → (far near : Result ℕ ℕ) → EndsSame (length (reverse c.front)) far near
       → ((back : ℕ) → far ≡ Ok back → back ≤ length there.front) → IsBeside P o s here (by_backtrack nest a r end ahead far there) (by_backtrack nest a r end ahead near here)
-  backtrack_beside end ahead lies after within same (Ok i) (Ok j) h bound =
+  backtrack_beside few end ahead lies after within same (Ok i) (Ok j) h bound =
       let at : length there.front ≡ length o.before + length c.front = front_long o s c.front in
       let short : j ≤ length c.front = omega (arith, h.1, length-reverse c.front) in
       let from : length there.front - i ≡ length o.before + (length c.front - j) = omega (arith, at, h.0, short) in
@@ -144,6 +170,8 @@ module _ (P : Placing) (over : IsOfWhole P) (nest : Option (ℕ → Action)) (in
         reach = λ e. omega (arith, size);
         high = end + length c.front;
         rises = subst (λ (n : ℕ). AreRising n (end + length c.front) ps) (plus_zero (length c.front)) (rising_plus 0 end (length c.front) (0 ∷ ours) rises);
+        few = short_match few;
+        near = omega arith;
         below = λ e. omega (arith, size, lies.within);
         within = λ e. omega (arith, size, lies.within);
       } in
@@ -155,13 +183,13 @@ module _ (P : Placing) (over : IsOfWhole P) (nest : Option (ℕ → Action)) (in
     where
       plus_zero : (n : ℕ) → 0 + n ≡ n
       plus_zero n = omega arith
-  backtrack_beside end ahead lies after within same (Ok i) (Err d) h bound =
+  backtrack_beside few end ahead lies after within same (Ok i) (Err d) h bound =
       let at = front_long o s c.front in
       let le = bound i refl in
       break_over P o s here (length there.front - i) (length there.front + ahead) (nested_lookups nest a r end there) (attempt_around d 1 here) (matched_never (each_nested nest r.records there (map (λ k. k + length there.front) (input_indices (own_search a there.rest) (drop 1 r.input) there.rest)) (length there.front + end)))
       (λ es. inl (inl (omega (arith, at, h, length-reverse c.front, le), omega (arith, at, after, lies.rises), omega (arith, at, size, within))))
-  backtrack_beside end ahead lies after within same (Err d) (Ok j) h bound = absurd h
-  backtrack_beside end ahead lies after within same (Err d) (Err e) h bound = (refl, refl)
+  backtrack_beside few end ahead lies after within same (Err d) (Ok j) h bound = absurd h
+  backtrack_beside few end ahead lies after within same (Err d) (Err e) h bound = (refl, refl)
 
   abbrev input_asks : List (Item → match_t)
   input_asks = answers_of (own_search a (x ∷ xs)) (drop 1 r.input)
@@ -180,18 +208,18 @@ module _ (P : Placing) (over : IsOfWhole P) (nest : Option (ℕ → Action)) (in
   back_within back e = let lies = match_lies back_asks 0 back (reverse there.front) (omega arith) e in omega (arith, lies.within, length-reverse there.front)
 
   -- the lookahead sequence, where the input matches inside the fragment
-  lookahead_beside : (end : ℕ) → LiesWithin 1 end (length {A = Item} (x ∷ xs)) (indices input_asks 1 (x ∷ xs)) → indices input_asks 1 there.rest ≡ indices input_asks 1 (x ∷ xs) → (far near : Result ℕ ℕ) → sequence_end ahead_asks end there.rest ≡ far → sequence_end ahead_asks end (x ∷ xs) ≡ near
+  lookahead_beside : length r.input ≤ 64 → (end : ℕ) → LiesWithin 1 end (length {A = Item} (x ∷ xs)) (indices input_asks 1 (x ∷ xs)) → indices input_asks 1 there.rest ≡ indices input_asks 1 (x ∷ xs) → (far near : Result ℕ ℕ) → sequence_end ahead_asks end there.rest ≡ far → sequence_end ahead_asks end (x ∷ xs) ≡ near
       → EndsSame (length {A = Item} (x ∷ xs)) far near → IsBeside P o s here (by_lookahead nest a r end far there) (by_lookahead nest a r end near here)
-  lookahead_beside end lies same (Ok i) (Ok j) ef en h =
+  lookahead_beside few end lies same (Ok i) (Ok j) ef en h =
       let ours = match_lies ahead_asks end j (x ∷ xs) lies.within en in
       subst (λ (n : ℕ). IsBeside P o s here (by_backtrack nest a r end n (sequence_end back_asks 0 (reverse there.front)) there) (by_lookahead nest a r end (Ok j) here)) (sym h.0)
-      (backtrack_beside end j lies ours.rises ours.within same (sequence_end back_asks 0 (reverse there.front)) (sequence_end back_asks 0 (reverse c.front)) back_ends back_within)
-  lookahead_beside end lies same (Ok i) (Err d) ef en h =
+      (backtrack_beside few end j lies ours.rises ours.within same (sequence_end back_asks 0 (reverse there.front)) (sequence_end back_asks 0 (reverse c.front)) back_ends back_within)
+  lookahead_beside few end lies same (Ok i) (Err d) ef en h =
       let long = rest_long o s (x ∷ xs) in
       let theirs = match_lies ahead_asks end i there.rest (omega (arith, lies.within, long)) ef in
       past_end end i h theirs.within (sequence_end back_asks 0 (reverse there.front)) (Concat (length c.front - 0) (length c.front + d) ∷ []) refl
-  lookahead_beside end lies same (Err d) (Ok j) ef en h = absurd h
-  lookahead_beside end lies same (Err d) (Err e) ef en h = (refl, refl)
+  lookahead_beside few end lies same (Err d) (Ok j) ef en h = absurd h
+  lookahead_beside few end lies same (Err d) (Err e) ef en h = (refl, refl)
 
   -- where the input ends past the fragment, alone the rule passes
   over_beside : (end : ℕ) → length {A = Item} (x ∷ xs) < end → end ≤ length there.rest → (far : Result ℕ ℕ) → sequence_end ahead_asks end there.rest ≡ far → (ours : List Event) → without_concats ours ≡ [] → IsBeside P o s here (by_lookahead nest a r end far there) (Passes ours)
@@ -200,28 +228,29 @@ module _ (P : Placing) (over : IsOfWhole P) (nest : Option (ℕ → Action)) (in
       past_end end ahead (omega (arith, past, theirs.rises)) theirs.within (sequence_end back_asks 0 (reverse there.front)) ours e
   over_beside end past within (Err d) ef ours e = (refl, e)
 
-  input_beside : (far near : Result ℕ ℕ) → sequence_end input_asks 1 there.rest ≡ far → sequence_end input_asks 1 (x ∷ xs) ≡ near → Agree (length {A = Item} (x ∷ xs)) far near (indices input_asks 1 there.rest) (indices input_asks 1 (x ∷ xs)) → IsBeside P o s here (by_input nest a r far there) (by_input nest a r near here)
-  input_beside (Ok i) (Ok j) ef en h =
+  input_beside : length r.input ≤ 64 → (far near : Result ℕ ℕ) → sequence_end input_asks 1 there.rest ≡ far → sequence_end input_asks 1 (x ∷ xs) ≡ near → Agree (length {A = Item} (x ∷ xs)) far near (indices input_asks 1 there.rest) (indices input_asks 1 (x ∷ xs)) → IsBeside P o s here (by_input nest a r far there) (by_input nest a r near here)
+  input_beside few (Ok i) (Ok j) ef en h =
       let lies = match_lies input_asks 1 j (x ∷ xs) (omega arith) en in
       let agree = match_agrees ahead_asks s.name j (x ∷ xs) o.after (answers_blind (context_search a (x ∷ xs)) r.lookahead blind.lookahead) lies.within in
       subst (λ (n : ℕ). IsBeside P o s here (by_lookahead nest a r n (sequence_end ahead_asks n there.rest) there) (by_input nest a r (Ok j) here)) (sym h.ends.0)
-      (lookahead_beside j lies (h.found j refl) (sequence_end ahead_asks j there.rest) (sequence_end ahead_asks j (x ∷ xs)) refl refl agree.ends)
-  input_beside (Ok i) (Err d) ef en h =
+      (lookahead_beside few j lies (h.found j refl) (sequence_end ahead_asks j there.rest) (sequence_end ahead_asks j (x ∷ xs)) refl refl agree.ends)
+  input_beside few (Ok i) (Err d) ef en h =
       let long = rest_long o s (x ∷ xs) in
       let lies = match_lies input_asks 1 i there.rest (omega (arith, long)) ef in
       over_beside i h.ends lies.within (sequence_end ahead_asks i there.rest) refl (Concat (length c.front - 0) (length c.front + d) ∷ []) refl
-  input_beside (Err d) (Ok j) ef en h = absurd h.ends
-  input_beside (Err d) (Err e) ef en h = (refl, refl)
+  input_beside few (Err d) (Ok j) ef en h = absurd h.ends
+  input_beside few (Err d) (Err e) ef en h = (refl, refl)
 
   chain_beside : IsBeside P o s here (chain_at nest a r (with_ligature_renamed s.name x) there) (chain_at nest a r x here)
   chain_beside =
-      let whole_rule = input_beside (sequence_end input_asks 1 there.rest) (sequence_end input_asks 1 (x ∷ xs)) refl refl (match_agrees input_asks s.name 1 (x ∷ xs) o.after (answers_blind (own_search a (x ∷ xs)) (drop 1 r.input) (rest_blind r.input blind.input)) (omega arith)) in
       subst (λ (t : Bool). IsBeside P o s here (if t && nat_le (length r.input) 64 then by_input nest a r (sequence_end input_asks 1 there.rest) there else Passes []) (chain_at nest a r x here)) (sym (begins_blind r.input blind.input s.name x))
-      (by_test (begins r.input x && nat_le (length r.input) 64) whole_rule)
+      (by_test (begins r.input x && nat_le (length r.input) 64)
+      (λ e. input_beside (at_most_by_test (length r.input) 64 (second_true (begins r.input x) (nat_le (length r.input) 64) e)) (sequence_end input_asks 1 there.rest) (sequence_end input_asks 1 (x ∷ xs)) refl refl
+      (match_agrees input_asks s.name 1 (x ∷ xs) o.after (answers_blind (own_search a (x ∷ xs)) (drop 1 r.input) (rest_blind r.input blind.input)) (omega arith))))
     where
-      by_test : (t : Bool) → IsBeside P o s here (by_input nest a r (sequence_end input_asks 1 there.rest) there) (by_input nest a r (sequence_end input_asks 1 (x ∷ xs)) here)
+      by_test : (t : Bool) → (t ≡ true → IsBeside P o s here (by_input nest a r (sequence_end input_asks 1 there.rest) there) (by_input nest a r (sequence_end input_asks 1 (x ∷ xs)) here))
           → IsBeside P o s here (if t then by_input nest a r (sequence_end input_asks 1 there.rest) there else Passes []) (if t then by_input nest a r (sequence_end input_asks 1 (x ∷ xs)) here else Passes [])
-      by_test true h = h
+      by_test true h = h refl
       by_test false h = (refl, refl)
 
 -- ---- all contexts

@@ -43,7 +43,7 @@ use Rattle.layout_contexts.specs.Chains.{context_subtable}
 use Rattle.layout_gpos.specs.Anchors.{anchored_position, with_attachment_flag}
 use Rattle.layout_gpos.specs.Values.{position_with_placement, adjusted_position, with_adjusted_position}
 use Rattle.layout_gpos.specs.Singles.{single_adjusted, single_subtable}
-use Rattle.layout_gpos.specs.Pairs.{second_adjusted, pair_of, pair_second, next_item, pair_values, pair_from, pair_subtable}
+use Rattle.layout_gpos.specs.Pairs.{second_adjusted, pair_has_no_effect, pair_adjusted, pair_of, pair_second, next_item, pair_values, pair_from, pair_subtable}
 use Rattle.layout_gpos.specs.Marks.{item_before, among_marks, base_before, ligature_before, attach_if, is_there, with_found, on_base, mark_on_base, mark_to_base, component_in, on_component, on_ligature, mark_on_ligature, mark_to_ligature, belong_together, on_mark, mark_on_mark, mark_to_mark}
 use Rattle.layout_positioning.specs.Joins.{join_if, exit_of, on_exit, entry_of, from_entry, cursive_subtable}
 use Rattle.layout_positioning.specs.Lookups.{positioning_pass, first_subtable, under_flag, nested_lookup, nested_actions, lookup_action}
@@ -73,6 +73,13 @@ adjusted_linkless d i v ps h = linkless_change ps i (adjusted_position d v) h (�
 second_linkless : (d : Direction) (i : ℕ) (v : Option ValueRecord) (ps : List Position) → AreLinkless ps → AreLinkless (second_adjusted d i v ps)
 second_linkless d i None ps h = h
 second_linkless d i (Some v) ps h = adjusted_linkless d i v ps h
+
+pair_linkless : (d : Direction) (i j : ℕ) (v : PairValues) (ps : List Position) → AreLinkless ps → AreLinkless (pair_adjusted d i j v ps)
+pair_linkless d i j v ps h = by_null (pair_has_no_effect v)
+  where
+    by_null : (null : Bool) → AreLinkless (if null then ps else second_adjusted d j v.second (with_adjusted_position d i v.first ps))
+    by_null true = h
+    by_null false = second_linkless d j v.second (with_adjusted_position d i v.first ps) (adjusted_linkless d i v.first ps h)
 
 advances_linkless : (forward across : Bool) (first second : ℕ) (exit entry : Anchor) (ps : List Position) → AreLinkless ps → AreLinkless (joined_advances forward across first exit second entry ps)
 advances_linkless true across first second exit entry ps h = linkless_change (change_at (first_ends across exit) first ps) second (position_from_anchor across entry) (linkless_change ps first (first_ends across exit) h (ends_link across exit)) (anchor_link across entry)
@@ -196,7 +203,7 @@ single_flags d rows = item_flags (λ x. single_adjusted d (value_of x.number row
 
 values_flag : (d : Direction) (apart : ℕ) (found : Option PairValues) → IsFlagging (pair_of d apart found)
 values_flag d apart None c = tt
-values_flag d apart (Some v) c = λ h e. second_linkless d (length c.front + apart) v.second (with_adjusted_position d (length c.front) v.first c.positions) (adjusted_linkless d (length c.front) v.first c.positions (h e))
+values_flag d apart (Some v) c = λ h e. pair_linkless d (length c.front) (length c.front + apart) v c.positions (h e)
 
 second_flags : (d : Direction) (values : Item → Option PairValues) (o : Result ℕ ℕ) → IsFlagging (pair_second d values o)
 second_flags d values (Err end) c = tt

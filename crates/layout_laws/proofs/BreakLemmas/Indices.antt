@@ -1,8 +1,9 @@
 -- The indices of a match in a fragment, and in the text.
-use Rattle.std.proofs.Common.{ℕ, zero, suc, ◌≡◌, ◌≤◌, ◌<◌, ◌+◌, ◌-◌, max, List, [], ◌∷◌, ◌++◌, Some, None, map, take, drop, get_or, add-one, arith, refl, ap, sym, subst, ◌∙◌}
+use Rattle.std.proofs.Common.{ℕ, zero, suc, ◌≡◌, ◌≤◌, ◌<◌, ◌+◌, ◌-◌, max, List, [], ◌∷◌, ◌++◌, Some, None, length, map, take, drop, get_or, add-one, arith, refl, ap, sym, subst, ◌∙◌}
 use Rattle.std.specs.Prelude.{slice_get}
-use Rattle.std.proofs.lemmas.List.{map-append, take-map, drop-map}
+use Rattle.std.proofs.lemmas.List.{map-append, take-map, drop-map, take-append-drop, take_all, length-take}
 use Rattle.std.proofs.lemmas.Option.{get_or_from_slice_get}
+use Rattle.buffer_facts.proofs.Lists.{map_same}
 use Rattle.layout_contexts.specs.MatchIndices.{AreRising}
 use Rattle.layout_contexts.specs.Shifts.{following, indices_after_resize, moved_end}
 
@@ -59,6 +60,8 @@ pub record IsResized (low high before after p : ℕ) (ps : List ℕ) : Type 0 wh
   pub top : ℕ
   pub rises : AreRising low top ps
   pub below : (n : ℕ) → high ≤ before → p < after → after ≤ n → top ≤ n
+  -- if all were before the match's end, or at it, they still are
+  pub near : (end : ℕ) → high ≤ end + 1 → top ≤ moved_end p before after end + 1
 
 pub resized : (low high i before after p : ℕ) (ps : List ℕ) → AreRising low high ps → slice_get ps i ≡ Some p → IsResized low high before after p (indices_after_resize i before after ps)
 resized low high i before after p ps h e =
@@ -79,7 +82,26 @@ resized low high i before after p ps h e =
           (rising_take low top 64 (take (i + 1) ps ++ following p (after - before) ++ map (λ q. q + after - before) (drop (before - after) (drop (i + 1) ps)))
           (subst (λ (j : ℕ). AreRising low top (take j ps ++ following p (after - before) ++ map (λ q. q + after - before) (drop (before - after) (drop j ps)))) (sym (add-one i)) made));
       below = λ n le lt within. let low_p = cut.2 in omega (arith, le, lt, within, low_p);
+      near = λ end le. let low_p = cut.2 in omega (arith, le, low_p);
     }
+
+-- ---- after a lookup that leaves the length as it was
+
+pub unresized : (i n : ℕ) (ps : List ℕ) → length ps ≤ 64 → indices_after_resize i n n ps ≡ ps
+unresized i n ps few =
+    let none : n - n ≡ 0 = omega arith in
+    let rest = drop (i + 1) ps in
+    ap (λ (k : ℕ). take 64 (take (i + 1) ps ++ following (get_or ps i 0) k ++ map (λ q. q + n - n) (drop k rest))) none
+    ∙ ap (λ (qs : List ℕ). take 64 (take (i + 1) ps ++ qs)) (map_same (λ q. q + n - n) rest (λ q. omega arith))
+    ∙ ap (take 64) (take-append-drop (i + 1) ps) ∙ take_all 64 ps few
+
+pub end_stays : (p n end : ℕ) → p ≤ end → moved_end p n n end ≡ end
+end_stays p n end le = omega (arith, le)
+
+pub resized_few : (i before after : ℕ) (ps : List ℕ) → length (indices_after_resize i before after ps) ≤ 64
+resized_few i before after ps =
+    let all = take (i + 1) ps ++ following (get_or ps i 0) (after - before) ++ map (λ q. q + after - before) (drop (before - after) (drop (i + 1) ps)) in
+    omega (arith, length-take 64 all)
 
 -- ---- in the text
 

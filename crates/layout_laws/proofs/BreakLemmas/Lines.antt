@@ -21,6 +21,7 @@ use Rattle.layout_laws.specs.Breaks.Binding.{BindOutside}
 use Rattle.layout_laws.specs.Breaks.Local.{AnyPositions, IsLocal, IsSteady}
 use Rattle.layout_laws.proofs.BreakLemmas.PassWalks.{IsEnough, IsWalked}
 use Rattle.layout_laws.proofs.BreakLemmas.Frames.{given_both}
+use Rattle.layout_laws.proofs.BreakLemmas.Outcomes.{local_or_idle}
 use Rattle.layout_laws.proofs.BreakLemmas.Walks.{walks_are_local}
 use Rattle.layout_laws.proofs.BreakLemmas.Binding.{first_binds, second_binds, unsafe_with_concats}
 use Rattle.layout_laws.proofs.BreakLemmas.Passes.{IsPass, pass_events, named_given, named_foreign, naming_wider}
@@ -111,7 +112,7 @@ module _ (act : Action) (local : IsLocal AnyPositions act) (steady : IsSteady ac
 
   first_walks : BindOutside 0 (length first.view.items) (length (map (with_ligature_renamed is.second_name) second.view.items)) (without_concats (is.text_pass.walk.events text.level))
       ⊎ IsWalked AnyPositions act text.level text.view first.view (length text.view.items) (length first.view.items) outside_first inside_first (uncut first.view) is.text_pass.walk is.first_pass.walk
-  first_walks = walks_are_local AnyPositions act (λ o c d p q r. tt) local steady text.level text.view first.view (length text.view.items) (length first.view.items) outside_first inside_first (uncut first.view) is.text_pass.walk is.first_pass.walk first_frames tt is.first_some
+  first_walks = walks_are_local AnyPositions act (λ o c d p q r. tt) (local_or_idle AnyPositions act local) steady text.level text.view first.view (length text.view.items) (length first.view.items) outside_first inside_first (uncut first.view) is.text_pass.walk is.first_pass.walk first_frames tt is.first_some
       (omega arith) (omega (arith, both_long)) (ap (λ (z : Cut). trials act text.view (length text.view.items) z) (sym first_at) ∙ is.text_pass.walk_is) is.first_pass.walk_is is.text_enough is.first_enough
 
   first_unsafe : BindOutside 0 (length first.view.items) (length (map (with_ligature_renamed is.second_name) second.view.items)) (without_concats (is.text_pass.walk.events text.level)) → IsUnsafeAt c (state_after r text).origins
@@ -168,7 +169,7 @@ module _ (act : Action) (local : IsLocal AnyPositions act) (steady : IsSteady ac
   SecondWalk w = IsWalked AnyPositions act text.level text.view second.view w.left (length second.view.items) (outside_second w) (inside_after w) (uncut second.view) w.last is.second_pass.walk
 
   second_walks : (w : FirstWalk) → BindOutside (length (named_items w.inside w.end.front)) (length second.view.items) 0 (without_concats (w.last.events text.level)) ⊎ SecondWalk w
-  second_walks w = walks_are_local AnyPositions act (λ o c d p q r. tt) local steady text.level text.view second.view w.left (length second.view.items) (outside_second w) (inside_after w) (uncut second.view) w.last is.second_pass.walk (second_frames w) tt is.second_some
+  second_walks w = walks_are_local AnyPositions act (λ o c d p q r. tt) (local_or_idle AnyPositions act local) steady text.level text.view second.view w.left (length second.view.items) (outside_second w) (inside_after w) (uncut second.view) w.last is.second_pass.walk (second_frames w) tt is.second_some
       (omega arith) (omega (arith, both_long, w.fuel)) (ap (λ (z : Cut). trials act text.view w.left z) (sym (second_at w)) ∙ w.leads) is.second_pass.walk_is w.enough is.second_enough
 
   -- the events of the first fragment, and then the rest

@@ -28,7 +28,7 @@ use Rattle.buffer_parts.specs.Breaks.Concat.{without_concats}
 use Rattle.buffer_parts.specs.Breaks.Divisible.{merges}
 use Rattle.layout_laws.specs.Breaks.Local.{AnyPositions, IsLocal}
 use Rattle.layout_laws.specs.Breaks.LookupLaws.{LookupsAreLocal}
-use Rattle.layout_laws.proofs.BreakLemmas.Outcomes.{first_local, passes_local}
+use Rattle.layout_laws.proofs.BreakLemmas.Outcomes.{first_local, passes_local, local_or_idle}
 use Rattle.layout_laws.proofs.BreakLemmas.Singles.{single_local, multiple_local, alternate_local}
 use Rattle.layout_laws.proofs.BreakLemmas.Ligatures.{ligature_local, next_small}
 use Rattle.layout_laws.proofs.BreakLemmas.Records.{SpendsAt, RecordsSpend, each_spends, NestLocal}
@@ -132,7 +132,7 @@ nests_local : (table : List SubstLookup) (depth : ℕ) (a : ApplyContext) → Ne
 unfolding nested_actions
 nests_local table zero a keeps spends = tt
 nests_local table (suc depth) a keeps spends =
-    (λ i. nested_local (nested_actions table depth) (λ b. nests_local table depth b (nest_related by_parts substituted_by_parts table depth b) (nest_related by_spending spending_substituted table depth b)) (slice_get table i) a, λ i c. keeps i tt c, λ i c. spends i tt c)
+    (λ i. local_or_idle AnyPositions (nested_lookup (nested_actions table depth) (slice_get table i) a) (nested_local (nested_actions table depth) (λ b. nests_local table depth b (nest_related by_parts substituted_by_parts table depth b) (nest_related by_spending spending_substituted table depth b)) (slice_get table i) a), λ i c. keeps i tt c, λ i c. spends i tt c)
 
 pub lookups_are_local : LookupsAreLocal
 lookups_are_local table a lookup =

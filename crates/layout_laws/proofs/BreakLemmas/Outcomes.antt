@@ -13,7 +13,7 @@ use Rattle.buffer_parts.specs.Breaks.Sides.{AreBounded}
 use Rattle.buffer_parts.specs.Breaks.Fragments.{with_ligature_renamed}
 use Rattle.layout_laws.specs.Breaks.Frames.{Outside, Inside, framed_cut, IsFramed}
 use Rattle.layout_laws.specs.Breaks.Binding.{BindOutside}
-use Rattle.layout_laws.specs.Breaks.Local.{Placing, Binds, IsMadeInside, IsBeside, IsLocal}
+use Rattle.layout_laws.specs.Breaks.Local.{Placing, Binds, IsMadeInside, IsBeside, IsLocal, IsLocalOrIdle}
 use Rattle.layout_laws.proofs.BreakLemmas.Frames.{at_item}
 use Rattle.buffer_parts.proofs.BreakLemmas.Division.{without_both}
 
@@ -84,10 +84,17 @@ or_else_beside P o s c (Refuses x) q second third h k = tt
 pub passes_local : (P : Placing) → IsLocal P (λ c. Passes [])
 passes_local P o s c f p some = (refl, refl)
 
+-- the first of some rules at a cut, each of which does there what it does in the text
+pub first_beside : {R : Type 0} (P : Placing) (act : R → Action) (rules : List R) (o : Outside) (s : Inside) (c : Cut) → ((r : R) → IsBeside P o s c (act r (framed_cut o s c)) (act r c)) → IsBeside P o s c (first_rule act rules (framed_cut o s c)) (first_rule act rules c)
+first_beside P act [] o s c k = (refl, refl)
+first_beside P act (r ∷ rules) o s c k = or_else_beside P o s c (act r (framed_cut o s c)) (act r c) (first_rule act rules (framed_cut o s c)) (first_rule act rules c) (k r) (first_beside P act rules o s c k)
+
 pub first_local : {R : Type 0} (P : Placing) (act : R → Action) (rules : List R) → ((r : R) → IsLocal P (act r)) → IsLocal P (first_rule act rules)
-first_local P act [] k o s c f p some = (refl, refl)
-first_local P act (r ∷ rules) k o s c f p some =
-    or_else_beside P o s c (act r (framed_cut o s c)) (act r c) (first_rule act rules (framed_cut o s c)) (first_rule act rules c) (k r o s c f p some) (first_local P act rules k o s c f p some)
+first_local P act rules k o s c f p some = first_beside P act rules o s c (λ r. k r o s c f p some)
+
+-- a local rule is local or idle
+pub local_or_idle : (P : Placing) (act : Action) → IsLocal P act → IsLocalOrIdle P act
+local_or_idle P act k o s c f p some = inl (k o s c f p some)
 
 -- a rule by the item at the cut
 abbrev pub IsLocalAt : Placing → (Item → Action) → Type 0

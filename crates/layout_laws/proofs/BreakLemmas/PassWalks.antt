@@ -12,7 +12,7 @@ use Rattle.buffer_parts.specs.Breaks.Sides.{AreBounded}
 use Rattle.layout_match.specs.Trying.{trials}
 use Rattle.layout_laws.specs.Breaks.Frames.{Outside, Inside, framed_cut, IsFramed, IsExtended}
 use Rattle.layout_laws.specs.Breaks.Binding.{BindOutside}
-use Rattle.layout_laws.specs.Breaks.Local.{Placing, IsLocal, IsSteady, IsOfWhole}
+use Rattle.layout_laws.specs.Breaks.Local.{Placing, IsLocalOrIdle, IsSteady, IsOfWhole}
 
 -- enough was left of the limits for what was read, from a last ligature number on: some budget of nested lookups, and a number for each
 -- merge
@@ -41,9 +41,9 @@ pub record IsWalked (P : Placing) (act : Action) (level : BufferClusterLevel) (v
   pub enough : IsEnough level inside.lig_id last
   pub fuel : steps ≤ left + n
 
--- law: a local rule that is tried over a fragment, in the text and alone, does alone what it does in the text up to the fragment's end, or
+-- law: a rule that is local or idle, tried over a fragment, in the text and alone, does alone what it does in the text up to the fragment's end, or
 -- binds the fragment to what is outside
 abbrev pub WalksAreLocal : Type 1
-WalksAreLocal = (P : Placing) (act : Action) → IsOfWhole P → IsLocal P act → IsSteady act → (level : BufferClusterLevel) (v u : View) (steps n : ℕ) (o : Outside) (s : Inside) (c : Cut) (r e : Read) → IsFramed o s c → P o c → 0 < length (whole c) → length c.rest ≤ n → n ≤ steps
+WalksAreLocal = (P : Placing) (act : Action) → IsOfWhole P → IsLocalOrIdle P act → IsSteady act → (level : BufferClusterLevel) (v u : View) (steps n : ℕ) (o : Outside) (s : Inside) (c : Cut) (r e : Read) → IsFramed o s c → P o c → 0 < length (whole c) → length c.rest ≤ n → n ≤ steps
     → trials act v steps (framed_cut o s c) ≡ Ok r → trials act u n c ≡ Ok e → IsEnough level s.lig_id r → IsEnough level c.lig_id e
     → BindOutside (length o.before) (length (whole c)) (length o.after) (without_concats (r.events level)) ⊎ IsWalked P act level v u steps n o s c r e

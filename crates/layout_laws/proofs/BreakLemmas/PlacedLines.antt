@@ -1,4 +1,4 @@
--- A local rule of positioning over a text that stands as its fragments, one after the other on the line.
+-- A rule of positioning that is local or idle, over a text that stands as its fragments, one after the other on the line.
 use Rattle.std.proofs.Common.{ℕ, ◌≡◌, ◌≤◌, ◌<◌, ◌+◌, ◌-◌, ◌==◌, ◌&&◌, ◌⊎◌, inl, inr, Bool, true, false, not, nat_lt, List, [], ◌∷◌, ◌++◌, Option, Some, None, Ok, length, map, reverse, arith, refl, ap, sym, subst, ◌∙◌}
 use Rattle.std.proofs.lemmas.Grind.{common_steps}
 use Rattle.std.proofs.lemmas.List.{append-nil, length-append, length-map, map-append, reverse-append}
@@ -21,7 +21,7 @@ use Rattle.layout_match.specs.Trying.{trials}
 use Rattle.layout_positioning.specs.Lookups.{positioning_pass}
 use Rattle.layout_laws.specs.Breaks.Frames.{Outside, Inside, named_items, framed_cut, IsFramed}
 use Rattle.layout_laws.specs.Breaks.Binding.{BindOutside}
-use Rattle.layout_laws.specs.Breaks.Local.{IsLocal, IsSteady}
+use Rattle.layout_laws.specs.Breaks.Local.{IsLocalOrIdle, IsSteady}
 use Rattle.layout_laws.specs.Breaks.Positioned.{LeadInside, continues, AreApart, ArePlaced}
 use Rattle.layout_laws.proofs.BreakLemmas.PassWalks.{IsEnough, IsWalked}
 use Rattle.layout_laws.proofs.BreakLemmas.Frames.{given_both, reverse_named as reverse_mapped}
@@ -125,7 +125,7 @@ pub record IsPlacedLineRead (level : BufferClusterLevel) (m n : ℕ) (text first
   pub first_direction : e.view.direction ≡ first.direction
   pub second_direction : l.view.direction ≡ second.direction
 
-module _ (act : Action) (local : IsLocal ArePlaced act) (steady : IsSteady act) (c : ℕ) (text first second : BufferState) (r e l : Read) (is : IsPlacedLine act c text first second r e l) where
+module _ (act : Action) (local : IsLocalOrIdle ArePlaced act) (steady : IsSteady act) (c : ℕ) (text first second : BufferState) (r e l : Read) (is : IsPlacedLine act c text first second r e l) where
   -- ---- the first fragment
 
   abbrev outside_first : Outside

@@ -32,7 +32,7 @@ use Rattle.layout_positioning.proofs.Left.{action_keeps}
 use Rattle.layout_laws.proofs.Lemmas.KeptRules.{by_parts, positioned_by_parts}
 use Rattle.layout_laws.proofs.Lemmas.Lookups.{tried_keeps}
 use Rattle.layout_laws.proofs.Lemmas.Positionings.{action_related}
-use Rattle.layout_laws.specs.Breaks.Local.{IsLocal, IsSteady}
+use Rattle.layout_laws.specs.Breaks.Local.{IsLocalOrIdle, IsSteady}
 use Rattle.layout_laws.proofs.BreakLemmas.PassWalks.{IsEnough}
 use Rattle.layout_laws.specs.Breaks.Positioned.{ArePlaced, AreFlagged, AreApart}
 use Rattle.layout_laws.specs.Breaks.Positionable.{ArePositionable, StaysPositionable, DividesPositions}
@@ -88,7 +88,7 @@ pass_stays act items counts v r e = subst (Stays v.items (length v.positions)) e
 
 -- what is known of a rule of positioning
 record IsPositioning (act : Action) : Type 0 where
-  local : IsLocal ArePlaced act
+  local : IsLocalOrIdle ArePlaced act
   steady : IsSteady act
   parts : RuleKeepsParts act
   lossless : (c : Cut) → LosesNone (act c)

@@ -1,4 +1,4 @@
--- All lookups of positioning are local and steady, and lose no flag.
+-- All lookups of positioning are local or idle, and steady, and lose no flag.
 use Rattle.std.proofs.Common.{ℕ, zero, suc, List, [], ◌∷◌, Option, Some, None, length, arith, refl, ◌∙◌}
 use Rattle.std.specs.Prelude.{slice_get}
 use Rattle.buffer_common.specs.declared.direction.Direction.{Direction}
@@ -19,19 +19,19 @@ use Rattle.layout_positioning.specs.Lookups.{first_subtable, under_flag, nested_
 use Rattle.layout_laws.proofs.Lemmas.Rules.{NestRelated}
 use Rattle.layout_laws.proofs.Lemmas.KeptRules.{by_parts, positioned_by_parts}
 use Rattle.layout_laws.proofs.Lemmas.Positionings.{IsPositioned, nest_related, action_related}
-use Rattle.layout_laws.specs.Breaks.Local.{IsLocal, Steps}
+use Rattle.layout_laws.specs.Breaks.Local.{IsLocalOrIdle, Steps}
 use Rattle.layout_laws.specs.Breaks.Positioned.{ArePlaced}
 use Rattle.layout_laws.specs.Breaks.PositionLaws.{AdjustmentsAreLocal, PairsAreLocal, JoinsAreLocal, MarksAreLocal, PositioningsAreLocal, PositioningsAreSteady}
-use Rattle.layout_laws.proofs.BreakLemmas.Outcomes.{first_local, passes_local}
+use Rattle.layout_laws.proofs.BreakLemmas.Outcomes.{first_local, passes_local, local_or_idle}
 use Rattle.layout_laws.proofs.BreakLemmas.Passes.{count_without}
 use Rattle.layout_laws.proofs.BreakLemmas.Records.{SpendsAt, NestLocal}
 use Rattle.layout_laws.proofs.BreakLemmas.Contexts.{context_local}
-use Rattle.layout_laws.proofs.BreakLemmas.Rules.{met_local}
+use Rattle.layout_laws.proofs.BreakLemmas.Rules.{met_local_or_idle}
 use Rattle.layout_laws.proofs.BreakLemmas.Lookups.{by_spending, spending_substituted}
 use Rattle.layout_laws.proofs.BreakLemmas.Steady.{Consumes, IsConsuming, item_consumes, test_consumes}
 use Rattle.layout_laws.proofs.BreakLemmas.Lossless.{LosesNone, by_losing, losing_substituted}
 use Rattle.layout_laws.proofs.BreakLemmas.Placed.{placed_of_whole}
-use Rattle.layout_laws.proofs.BreakLemmas.Pairs.{single_local, pair_local}
+use Rattle.layout_laws.proofs.BreakLemmas.Pairs.{single_local, pairs_local}
 use Rattle.layout_laws.proofs.BreakLemmas.Marks.{to_base_local, to_ligature_local, to_mark_local}
 use Rattle.layout_laws.proofs.BreakLemmas.Cursives.{cursive_local}
 use Rattle.layout_laws.proofs.BreakLemmas.Moving.{subtables_consume}
@@ -42,7 +42,7 @@ pub adjustments_are_local : AdjustmentsAreLocal
 adjustments_are_local d rows = single_local d rows
 
 pub pairs_are_local : PairsAreLocal
-pairs_are_local d a s = pair_local d a s
+pairs_are_local d a subtables = pairs_local d a subtables
 
 pub joins_are_local : JoinsAreLocal
 joins_are_local d a rows = cursive_local d a rows
@@ -75,18 +75,18 @@ positionings_lose_none table d a lookup c = action_related by_losing tt losing_p
 
 -- ---- lookups
 
-subtables_local : (nest : Option (ℕ → Action)) → NestLocal ArePlaced nest → (d : Direction) (a : ApplyContext) (s : PositioningSubtables) → IsLocal ArePlaced (first_subtable nest d a s)
-subtables_local nest inner d a (Single subtables) = first_local ArePlaced (λ s. single_subtable d s.rows) subtables (λ s. single_local d s.rows)
-subtables_local nest inner d a (Pair subtables) = first_local ArePlaced (pair_subtable d a) subtables (λ s. pair_local d a s)
-subtables_local nest inner d a (Cursive subtables) = first_local ArePlaced (λ s. cursive_subtable d a s.rows) subtables (λ s. cursive_local d a s.rows)
-subtables_local nest inner d a (MarkToBase subtables) = first_local ArePlaced (mark_to_base a) subtables (λ s. to_base_local a s)
-subtables_local nest inner d a (MarkToLigature subtables) = first_local ArePlaced (mark_to_ligature a) subtables (λ s. to_ligature_local a s)
-subtables_local nest inner d a (MarkToMark subtables) = first_local ArePlaced (mark_to_mark a) subtables (λ s. to_mark_local a s)
-subtables_local nest inner d a (Context subtables) = first_local ArePlaced (context_subtable nest a) subtables (λ s. context_local ArePlaced placed_of_whole nest inner a s)
-subtables_local nest inner d a (ChainContext subtables) = first_local ArePlaced (context_subtable nest a) subtables (λ s. context_local ArePlaced placed_of_whole nest inner a s)
+subtables_local : (nest : Option (ℕ → Action)) → NestLocal ArePlaced nest → (d : Direction) (a : ApplyContext) (s : PositioningSubtables) → IsLocalOrIdle ArePlaced (first_subtable nest d a s)
+subtables_local nest inner d a (Single subtables) = local_or_idle ArePlaced (first_subtable nest d a (Single subtables)) (first_local ArePlaced (λ s. single_subtable d s.rows) subtables (λ s. single_local d s.rows))
+subtables_local nest inner d a (Pair subtables) = pairs_local d a subtables
+subtables_local nest inner d a (Cursive subtables) = local_or_idle ArePlaced (first_subtable nest d a (Cursive subtables)) (first_local ArePlaced (λ s. cursive_subtable d a s.rows) subtables (λ s. cursive_local d a s.rows))
+subtables_local nest inner d a (MarkToBase subtables) = local_or_idle ArePlaced (first_subtable nest d a (MarkToBase subtables)) (first_local ArePlaced (mark_to_base a) subtables (λ s. to_base_local a s))
+subtables_local nest inner d a (MarkToLigature subtables) = local_or_idle ArePlaced (first_subtable nest d a (MarkToLigature subtables)) (first_local ArePlaced (mark_to_ligature a) subtables (λ s. to_ligature_local a s))
+subtables_local nest inner d a (MarkToMark subtables) = local_or_idle ArePlaced (first_subtable nest d a (MarkToMark subtables)) (first_local ArePlaced (mark_to_mark a) subtables (λ s. to_mark_local a s))
+subtables_local nest inner d a (Context subtables) = local_or_idle ArePlaced (first_subtable nest d a (Context subtables)) (first_local ArePlaced (context_subtable nest a) subtables (λ s. context_local ArePlaced placed_of_whole nest inner a s))
+subtables_local nest inner d a (ChainContext subtables) = local_or_idle ArePlaced (first_subtable nest d a (ChainContext subtables)) (first_local ArePlaced (context_subtable nest a) subtables (λ s. context_local ArePlaced placed_of_whole nest inner a s))
 
-nested_local : (below : ApplyContext → Option (ℕ → Action)) → ((b : ApplyContext) → NestLocal ArePlaced (below b)) → (o : Option PositioningLookup) (d : Direction) (a : ApplyContext) → IsLocal ArePlaced (nested_lookup below o d a)
-nested_local below inner None d a = passes_local ArePlaced
+nested_local : (below : ApplyContext → Option (ℕ → Action)) → ((b : ApplyContext) → NestLocal ArePlaced (below b)) → (o : Option PositioningLookup) (d : Direction) (a : ApplyContext) → IsLocalOrIdle ArePlaced (nested_lookup below o d a)
+nested_local below inner None d a = local_or_idle ArePlaced (nested_lookup below None d a) (passes_local ArePlaced)
 nested_local below inner (Some lookup) d a = subtables_local (below (under_flag lookup a)) (inner (under_flag lookup a)) d (under_flag lookup a) lookup.subtables
 
 nests_local : (table : List PositioningLookup) (depth : ℕ) (d : Direction) (a : ApplyContext) → NestRelated by_parts (nested_actions table depth d a) → NestRelated by_spending (nested_actions table depth d a) → NestLocal ArePlaced (nested_actions table depth d a)
@@ -97,7 +97,7 @@ nests_local table (suc depth) d a keeps spends =
 
 pub positionings_are_local : PositioningsAreLocal
 positionings_are_local table d a lookup =
-    met_local ArePlaced a (first_subtable (nested_actions table 64 d a) d a lookup.subtables)
+    met_local_or_idle ArePlaced a (first_subtable (nested_actions table 64 d a) d a lookup.subtables)
     (subtables_local (nested_actions table 64 d a) (nests_local table 64 d a (nest_related by_parts positioned_by_parts table 64 d a) (nest_related by_spending spending_positioned table 64 d a)) d a lookup.subtables)
 
 -- ---- steps

@@ -14,7 +14,7 @@ use Rattle.buffer_glyphs.specs.Events.{Event}
 use Rattle.buffer_glyphs.specs.Rewriting.{shifted_event}
 use Rattle.buffer_parts.specs.Counts.{count_after}
 use Rattle.layout_tables.specs.declared.context.SequenceLookupRecord.{SequenceLookupRecord}
-use Rattle.buffer_stages.specs.Actions.{Cut, whole, Outcome, Passes, Acts, Refuses, Action}
+use Rattle.buffer_stages.specs.Actions.{Cut, whole, past_item, Outcome, Passes, Acts, Refuses, Action}
 use Rattle.buffer_parts.specs.Counting.{is_left}
 use Rattle.buffer_parts.specs.Rules.{OutcomeKeepsParts, RuleKeepsParts}
 use Rattle.layout_contexts.specs.MatchIndices.{AreRising}
@@ -26,12 +26,13 @@ use Rattle.buffer_parts.specs.Breaks.Sides.{AreBounded}
 use Rattle.buffer_parts.specs.Breaks.Fragments.{with_ligature_renamed}
 use Rattle.layout_laws.specs.Breaks.Frames.{Outside, Inside, named_items, framed_cut, IsFramed, IsExtended}
 use Rattle.layout_laws.specs.Breaks.Binding.{BindOutside}
-use Rattle.layout_laws.specs.Breaks.Local.{Placing, Binds, IsAmple, IsMadeInside, IsBeside, IsLocal, IsOfWhole}
+use Rattle.layout_laws.specs.Breaks.Local.{Placing, Binds, IsAmple, IsMadeInside, IsBeside, IsIdle, IsBesideOrIdle, IsLocalOrIdle, IsOfWhole}
 use Rattle.layout_laws.proofs.BreakLemmas.Frames.{whole_framed, whole_long, given_both, extended_twice}
 use Rattle.layout_laws.proofs.BreakLemmas.Outcomes.{refused_beside}
 use Rattle.layout_laws.proofs.BreakLemmas.Walks.{bounded_both, count_both, binds_more, binds_after}
 use Rattle.layout_laws.proofs.BreakLemmas.Passes.{count_without}
-use Rattle.layout_laws.proofs.BreakLemmas.Indices.{farther, index_farther, none_farther, resized, resized_farther, end_farther, rising_at}
+use Rattle.layout_laws.proofs.BreakLemmas.Indices.{farther, index_farther, none_farther, resized, resized_few, resized_farther, unresized, end_farther, end_stays, rising_at}
+use Rattle.layout_gpos.proofs.Lemmas.Left.{past_left as items_stay}
 use Rattle.layout_positioning.proofs.Left.{cut_whole}
 use Rattle.buffer_parts.proofs.BreakLemmas.Division.{given_take, given_drop, without_both, merges_both}
 use Rattle.buffer_facts.proofs.Numbers.{test_of_less as less_test, test_of_not_less as more_test}
@@ -111,9 +112,13 @@ with_unit_spent s = record s { max_ops = s.max_ops -ℤ pos 1 }
 spent_frames : (o : Outside) (s : Inside) (c : Cut) → IsFramed o s c → IsFramed o (with_unit_spent s) (with_budget_spent c)
 spent_frames o s c h = record { names = h.names; front = h.front; rest = h.rest; before = h.before; after = h.after; foreign_before = h.foreign_before; foreign_after = h.foreign_after; some = h.some }
 
+-- two cuts of one list in one state: the next record cuts it anew
+abbrev IsRecut : Cut → Cut → Type 0
+IsRecut w v = cut_at 0 w ≡ cut_at 0 v
+
 -- ---- records under way
 
--- a fragment is framed by a text, on the way over the records of a rule that was tried at the index `low` of the fragment: the indices of the match rise, and
+-- a fragment is framed by a text, on the way over the records of a rule that was tried at the index `low` of the fragment: the indices of the match, at most 64, rise, up to the match's end at most; and
 -- where items follow the fragment, none is past its last item, nor is the match's end past it
 pub record IsUnderway (P : Placing) (o : Outside) (s : Inside) (low : ℕ) (c : Cut) (ps : List ℕ) (end : ℕ) : Type 0 where
   pub frames : IsFramed o s c
@@ -122,13 +127,15 @@ pub record IsUnderway (P : Placing) (o : Outside) (s : Inside) (low : ℕ) (c : 
   pub reach : 0 < length o.after → low < length (whole c)
   pub high : ℕ
   pub rises : AreRising low high ps
+  pub few : length ps ≤ 64
+  pub near : high ≤ end + 1
   pub below : 0 < length o.after → high ≤ length (whole c)
   pub within : 0 < length o.after → end ≤ length (whole c)
 
 -- records applied in a text did what they did in its fragment
 pub record IsWalkInside (P : Placing) (o : Outside) (s : Inside) (low : ℕ) (c w : Cut) (theirs : List ℕ) (to : ℕ) (es : List Event) (d : Cut) (ours : List ℕ) (end : ℕ) (fs : List Event) : Type 0 where
   pub inside : Inside
-  pub cut_is : w ≡ framed_cut o inside d
+  pub cut_is : IsRecut w (framed_cut o inside d)
   pub underway : IsUnderway P o inside low d ours end
   pub extended : IsExtended s c inside d
   pub events : without_concats es ≡ map (shifted_event (length o.before)) (without_concats fs)
@@ -157,10 +164,10 @@ unspared_right P o s low c d ps end fs (Walks w qs to es) e = λ x y. let no_bud
 unspared_right P o s low c d ps end fs (Stops y) e = tt
 
 -- nothing is done
-unmoved : (P : Placing) (o : Outside) (s : Inside) (low : ℕ) (c : Cut) (ps : List ℕ) (end : ℕ) → IsUnderway P o s low c ps end → RecordsBeside P o s low c (Walks (framed_cut o s c) (farther (length o.before) ps) (length o.before + end) []) (Walks c ps end [])
-unmoved P o s low c ps end h = λ a b. inr (record {
+unmoved : (P : Placing) (o : Outside) (s : Inside) (low : ℕ) (c w : Cut) (ps : List ℕ) (end : ℕ) → IsRecut w (framed_cut o s c) → IsUnderway P o s low c ps end → RecordsBeside P o s low c (Walks w (farther (length o.before) ps) (length o.before + end) []) (Walks c ps end [])
+unmoved P o s low c w ps end same h = λ a b. inr (record {
   inside = s;
-  cut_is = refl;
+  cut_is = same;
   underway = h;
   extended = record { up = omega arith; names = λ n le. inl (le, refl) };
   events = refl;
@@ -173,7 +180,7 @@ unmoved P o s low c ps end h = λ a b. inr (record {
 -- ---- one record
 
 abbrev NestedLocal : Placing → (ℕ → Action) → Type 0
-NestedLocal P act = (i : ℕ) → IsLocal P (act i)
+NestedLocal P act = (i : ℕ) → IsLocalOrIdle P (act i)
 
 -- on the way, the list cut at an index with a unit of the budget fewer
 cut_underway : (P : Placing) → IsOfWhole P → (o : Outside) (t : Inside) (low p : ℕ) (d : Cut) (ps : List ℕ) (end : ℕ) → IsUnderway P o t low d ps end → IsUnderway P o (with_unit_spent t) low (cut_at p (with_budget_spent d)) ps end
@@ -186,6 +193,8 @@ cut_underway P over o t low p d ps end u =
       reach = λ r. let k = u.reach r in omega (arith, long, k);
       high = u.high;
       rises = u.rises;
+      few = u.few;
+      near = u.near;
       below = λ r. let k = u.below r in omega (arith, long, k);
       within = λ r. let k = u.within r in omega (arith, long, k);
     }
@@ -224,7 +233,7 @@ outcome_beside P over o t low i p d ps end u index lt (Acts w es) (Acts b fs) h 
           let past : 0 < right → p < length (whole b) = λ r. let m = made.reach r in omega (arith, m, front) in
           inr (record {
             inside = made.inside;
-            cut_is = made.cut_is;
+            cut_is = ap (cut_at 0) made.cut_is;
             underway = record {
               frames = made.frames;
               placed = made.placed;
@@ -232,6 +241,8 @@ outcome_beside P over o t low i p d ps end u index lt (Acts w es) (Acts b fs) h 
               reach = λ r. let m = past r in omega (arith, m, at.0);
               high = size.top;
               rises = size.rises;
+              few = resized_few i (length (whole e)) (length (whole b)) ps;
+              near = size.near end u.near;
               below = λ r. let m = past r in let n = u.below r in size.below (length (whole b)) (omega (arith, n, long)) m (omega arith);
               within = λ r. let m = past r in let n = u.within r in omega (arith, n, m, long);
             };
@@ -247,60 +258,94 @@ outcome_beside P over o t low i p d ps end u index lt (Acts w es) (Acts b fs) h 
 outcome_beside P over o t low i p d ps end u index lt (Acts w es) (Refuses y) h k = tt
 outcome_beside P over o t low i p d ps end u index lt (Refuses x) b h k = tt
 
-nested_at_beside : (P : Placing) → IsOfWhole P → (act : ℕ → Action) → NestedLocal P act → ((i : ℕ) → RuleKeepsParts (act i)) → (r : SequenceLookupRecord) (o : Outside) (t : Inside) (low p : ℕ) (d : Cut) (ps : List ℕ) (end : ℕ) → IsUnderway P o t low d ps end → slice_get ps r.sequence_index ≡ Some p → p < length (whole d)
-    → RecordsBeside P o t low d (nested_outcome_at act r (length o.before + p) (with_budget_spent (framed_cut o t d)) (farther (length o.before) ps) (length o.before + end)) (nested_outcome_at act r p (with_budget_spent d) ps end)
-nested_at_beside P over act local keeps r o t low p d ps end u index lt =
-    let w : Cut = framed_cut o (with_unit_spent t) (with_budget_spent d) in
+-- a lookup that is idle leaves the list, the indices and the end of the match as they are
+outcome_idle : (P : Placing) → IsOfWhole P → (o : Outside) (t : Inside) (low i p : ℕ) (d : Cut) (ps : List ℕ) (end : ℕ) → IsUnderway P o t low d ps end → slice_get ps i ≡ Some p → (q b : Outcome)
+    → IsIdle o (with_unit_spent t) (cut_at p (with_budget_spent d)) q b
+    → RecordsBeside P o t low d (nested_outcome i (length o.before + p) (framed_cut o (with_unit_spent t) (cut_at p (with_budget_spent d))) (farther (length o.before) ps) (length o.before + end) q) (nested_outcome i p (cut_at p (with_budget_spent d)) ps end b)
+outcome_idle P over o t low i p d ps end u index q b h =
+    let left = length o.before in
+    let e : Cut = cut_at p (with_budget_spent d) in
+    let w : Cut = framed_cut o (with_unit_spent t) e in
+    let stays : whole (past_item w) ≡ whole w = items_stay 1 w in
+    let long : length (whole (past_item w)) ≡ length (whole w) = ap (λ (xs : List Item). length xs) stays in
+    let n = length (whole w) in
+    let before = rising_at low u.high i p ps u.rises index in
+    let walked : RecordsBeside P o t low d (nested_outcome i (left + p) w (farther left ps) (left + end) (Acts (past_item w) h.theirs)) (nested_outcome i p e ps end (Passes h.ours)) = λ x y. inr (record {
+      inside = with_unit_spent t;
+      cut_is = ap (λ (xs : List Item). record w { front = []; rest = xs }) stays;
+      underway = cut_underway P over o t low p d ps end u;
+      extended = record { up = omega arith; names = λ m le. inl (le, refl) };
+      events = h.none_there ∙ ap (map (shifted_event left)) (sym h.none_here);
+      bounded = subst (λ (gs : List Event). AreBounded gs (length (whole d))) (sym h.none_here) tt;
+      counted = ap (λ (gs : List Event). count_after gs (length (whole d))) h.none_here ∙ ap (λ (xs : List Item). length xs) (sym (cut_whole p (with_budget_spent d)));
+      indices = ap (λ (m : ℕ). indices_after_resize i n m (farther left ps)) long ∙ unresized i n (farther left ps) (omega (arith, length-map ps (λ (k : ℕ). left + k), u.few));
+      ends = ap (λ (m : ℕ). moved_end (left + p) n m (left + end)) long ∙ end_stays (left + p) n (left + end) (omega (arith, before.1, u.near));
+    }) in
+    subst (λ (z : Outcome). RecordsBeside P o t low d (nested_outcome i (left + p) w (farther left ps) (left + end) z) (nested_outcome i p e ps end b)) (sym h.acts)
+    (subst (λ (z : Outcome). RecordsBeside P o t low d (nested_outcome i (left + p) w (farther left ps) (left + end) (Acts (past_item w) h.theirs)) (nested_outcome i p e ps end z)) (sym h.passes) walked)
+
+outcome_either : (P : Placing) → IsOfWhole P → (o : Outside) (t : Inside) (low i p : ℕ) (d : Cut) (ps : List ℕ) (end : ℕ) → IsUnderway P o t low d ps end → slice_get ps i ≡ Some p → p < length (whole d) → (q b : Outcome)
+    → IsBesideOrIdle P o (with_unit_spent t) (cut_at p (with_budget_spent d)) q b → OutcomeKeepsParts b (length (whole (cut_at p (with_budget_spent d))))
+    → RecordsBeside P o t low d (nested_outcome i (length o.before + p) (framed_cut o (with_unit_spent t) (cut_at p (with_budget_spent d))) (farther (length o.before) ps) (length o.before + end) q) (nested_outcome i p (cut_at p (with_budget_spent d)) ps end b)
+outcome_either P over o t low i p d ps end u index lt q b h k = elim h [ inl beside ↦ outcome_beside P over o t low i p d ps end u index lt q b beside k | inr idle ↦ outcome_idle P over o t low i p d ps end u index q b idle ]
+
+-- where a side of the list can't hold its items nothing is claimed
+held_beside : (P : Placing) (o : Outside) (s : Inside) (low : ℕ) (c : Cut) (theirs ours : RecordsOutcome) (a b : Bool) → RecordsBeside P o s low c theirs ours → RecordsBeside P o s low c (if a then theirs else Stops TooLong) (if b then ours else Stops TooLong)
+held_beside P o s low c theirs ours true true k = k
+held_beside P o s low c theirs ours true false k = stopped_beside P o s low c theirs
+held_beside P o s low c theirs ours false b k = tt
+
+nested_at_beside : (P : Placing) → IsOfWhole P → (act : ℕ → Action) → NestedLocal P act → ((i : ℕ) → RuleKeepsParts (act i)) → (r : SequenceLookupRecord) (o : Outside) (t : Inside) (low p : ℕ) (d w : Cut) (ps : List ℕ) (end : ℕ) → IsRecut w (framed_cut o t d) → IsUnderway P o t low d ps end → slice_get ps r.sequence_index ≡ Some p
+    → p < length (whole d) → RecordsBeside P o t low d (nested_outcome_at act r (length o.before + p) (with_budget_spent w) (farther (length o.before) ps) (length o.before + end)) (nested_outcome_at act r p (with_budget_spent d) ps end)
+nested_at_beside P over act local keeps r o t low p d w ps end same u index lt =
     let e : Cut = cut_at p (with_budget_spent d) in
     let here = cut_underway P over o t low p d ps end u in
     let there : 0 < length e.rest = omega (arith, lt, length-drop p (whole d)) in
-    by_tests (holds (length o.before + p) w) (holds p (with_budget_spent d))
+    let cut : cut_at (length o.before + p) (with_budget_spent w) ≡ framed_cut o (with_unit_spent t) e = ap (λ (z : Cut). cut_at (length o.before + p) (with_budget_spent z)) same ∙ cut_framed o (with_unit_spent t) p (with_budget_spent d) (omega (arith, lt)) in
+    held_beside P o t low d (nested_outcome r.sequence_index (length o.before + p) (cut_at (length o.before + p) (with_budget_spent w)) (farther (length o.before) ps) (length o.before + end) (act r.lookup_index (cut_at (length o.before + p) (with_budget_spent w))))
+    (nested_outcome r.sequence_index p e ps end (act r.lookup_index e)) (holds (length o.before + p) (with_budget_spent w)) (holds p (with_budget_spent d))
     (subst (λ (z : Cut). RecordsBeside P o t low d (nested_outcome r.sequence_index (length o.before + p) z (farther (length o.before) ps) (length o.before + end) (act r.lookup_index z)) (nested_outcome r.sequence_index p e ps end (act r.lookup_index e)))
-    (sym (cut_framed o (with_unit_spent t) p (with_budget_spent d) (omega (arith, lt))))
-    (outcome_beside P over o t low r.sequence_index p d ps end u index lt (act r.lookup_index (framed_cut o (with_unit_spent t) e)) (act r.lookup_index e) (local r.lookup_index o (with_unit_spent t) e here.frames here.placed there) (keeps r.lookup_index e)))
-  where
-    by_tests : (a b : Bool) → RecordsBeside P o t low d (nested_outcome r.sequence_index (length o.before + p) (cut_at (length o.before + p) (framed_cut o (with_unit_spent t) (with_budget_spent d))) (farther (length o.before) ps) (length o.before + end) (act r.lookup_index (cut_at (length o.before + p) (framed_cut o (with_unit_spent t) (with_budget_spent d))))) (nested_outcome r.sequence_index p (cut_at p (with_budget_spent d)) ps end (act r.lookup_index (cut_at p (with_budget_spent d))))
-        → RecordsBeside P o t low d (if a then nested_outcome r.sequence_index (length o.before + p) (cut_at (length o.before + p) (framed_cut o (with_unit_spent t) (with_budget_spent d))) (farther (length o.before) ps) (length o.before + end) (act r.lookup_index (cut_at (length o.before + p) (framed_cut o (with_unit_spent t) (with_budget_spent d)))) else Stops TooLong)
-        (if b then nested_outcome r.sequence_index p (cut_at p (with_budget_spent d)) ps end (act r.lookup_index (cut_at p (with_budget_spent d))) else Stops TooLong)
-    by_tests true true k = k
-    by_tests true false k = stopped_beside P o t low d (nested_outcome r.sequence_index (length o.before + p) (cut_at (length o.before + p) (framed_cut o (with_unit_spent t) (with_budget_spent d))) (farther (length o.before) ps) (length o.before + end) (act r.lookup_index (cut_at (length o.before + p) (framed_cut o (with_unit_spent t) (with_budget_spent d)))))
-    by_tests false b k = tt
+    (sym cut)
+    (outcome_either P over o t low r.sequence_index p d ps end u index lt (act r.lookup_index (framed_cut o (with_unit_spent t) e)) (act r.lookup_index e) (local r.lookup_index o (with_unit_spent t) e here.frames here.placed there) (keeps r.lookup_index e)))
 
 -- a record at an index of the match
-index_beside : (P : Placing) → IsOfWhole P → (act : ℕ → Action) → NestedLocal P act → ((i : ℕ) → RuleKeepsParts (act i)) → (r : SequenceLookupRecord) (o : Outside) (t : Inside) (low p : ℕ) (d : Cut) (ps : List ℕ) (end : ℕ) → IsUnderway P o t low d ps end → slice_get ps r.sequence_index ≡ Some p
-    → RecordsBeside P o t low d (outcome_at_index act r (Some (length o.before + p)) (framed_cut o t d) (farther (length o.before) ps) (length o.before + end)) (outcome_at_index act r (Some p) d ps end)
-index_beside P over act local keeps r o t low p d ps end u index = by_index (cases_lt p (length (whole d)))
+index_beside : (P : Placing) → IsOfWhole P → (act : ℕ → Action) → NestedLocal P act → ((i : ℕ) → RuleKeepsParts (act i)) → (r : SequenceLookupRecord) (o : Outside) (t : Inside) (low p : ℕ) (d w : Cut) (ps : List ℕ) (end : ℕ) → IsRecut w (framed_cut o t d) → IsUnderway P o t low d ps end → slice_get ps r.sequence_index ≡ Some p
+    → RecordsBeside P o t low d (outcome_at_index act r (Some (length o.before + p)) w (farther (length o.before) ps) (length o.before + end)) (outcome_at_index act r (Some p) d ps end)
+index_beside P over act local keeps r o t low p d w ps end same u index = by_index (cases_lt p (length (whole d)))
   where
-    long : length (whole (framed_cut o t d)) ≡ length o.before + length (whole d) + length o.after
-    long = whole_long o t d
+    long : length (whole w) ≡ length o.before + length (whole d) + length o.after
+    long = ap (λ (z : Cut). length (whole z)) same ∙ whole_long o t d
 
-    tested : (a b x y : Bool) → a ≡ b → is_left t.max_ops ≡ x → is_left d.max_ops ≡ y → (b ≡ true → RecordsBeside P o t low d (nested_outcome_at act r (length o.before + p) (with_budget_spent (framed_cut o t d)) (farther (length o.before) ps) (length o.before + end)) (nested_outcome_at act r p (with_budget_spent d) ps end))
-        → RecordsBeside P o t low d (if a && x then nested_outcome_at act r (length o.before + p) (with_budget_spent (framed_cut o t d)) (farther (length o.before) ps) (length o.before + end) else Walks (framed_cut o t d) (farther (length o.before) ps) (length o.before + end) [])
+    budget : w.max_ops ≡ t.max_ops
+    budget = ap (λ (z : Cut). z.max_ops) same
+
+    tested : (a b x y : Bool) → a ≡ b → is_left w.max_ops ≡ x → is_left d.max_ops ≡ y → (b ≡ true → RecordsBeside P o t low d (nested_outcome_at act r (length o.before + p) (with_budget_spent w) (farther (length o.before) ps) (length o.before + end)) (nested_outcome_at act r p (with_budget_spent d) ps end))
+        → RecordsBeside P o t low d (if a && x then nested_outcome_at act r (length o.before + p) (with_budget_spent w) (farther (length o.before) ps) (length o.before + end) else Walks w (farther (length o.before) ps) (length o.before + end) [])
         (if b && y then nested_outcome_at act r p (with_budget_spent d) ps end else Walks d ps end [])
     tested true true true true e l m k = k refl
-    tested true true false y e l m k = unspared_left P o t low d (framed_cut o t d) (farther (length o.before) ps) (length o.before + end) [] (if y then nested_outcome_at act r p (with_budget_spent d) ps end else Walks d ps end []) l
-    tested true true true false e l m k = unspared_right P o t low d d ps end [] (nested_outcome_at act r (length o.before + p) (with_budget_spent (framed_cut o t d)) (farther (length o.before) ps) (length o.before + end)) m
-    tested false false x y e l m k = unmoved P o t low d ps end u
+    tested true true false y e l m k = unspared_left P o t low d w (farther (length o.before) ps) (length o.before + end) [] (if y then nested_outcome_at act r p (with_budget_spent d) ps end else Walks d ps end []) l
+    tested true true true false e l m k = unspared_right P o t low d d ps end [] (nested_outcome_at act r (length o.before + p) (with_budget_spent w) (farther (length o.before) ps) (length o.before + end)) m
+    tested false false x y e l m k = unmoved P o t low d w ps end same u
     tested true false x y e l m k = cc
     tested false true x y e l m k = cc
 
-    by_index : (p < length (whole d)) ⊎ (length (whole d) ≤ p) → RecordsBeside P o t low d (outcome_at_index act r (Some (length o.before + p)) (framed_cut o t d) (farther (length o.before) ps) (length o.before + end)) (outcome_at_index act r (Some p) d ps end)
-    by_index (inl lt) = tested (nat_lt (length o.before + p) (length (whole (framed_cut o t d)))) (nat_lt p (length (whole d))) (is_left t.max_ops) (is_left d.max_ops)
-        (less_test (length o.before + p) (length (whole (framed_cut o t d))) (omega (arith, lt, long)) ∙ sym (less_test p (length (whole d)) lt)) refl refl (λ e. nested_at_beside P over act local keeps r o t low p d ps end u index lt)
+    by_index : (p < length (whole d)) ⊎ (length (whole d) ≤ p) → RecordsBeside P o t low d (outcome_at_index act r (Some (length o.before + p)) w (farther (length o.before) ps) (length o.before + end)) (outcome_at_index act r (Some p) d ps end)
+    by_index (inl lt) = tested (nat_lt (length o.before + p) (length (whole w))) (nat_lt p (length (whole d))) (is_left w.max_ops) (is_left d.max_ops)
+        (less_test (length o.before + p) (length (whole w)) (omega (arith, lt, long)) ∙ sym (less_test p (length (whole d)) lt)) refl refl (λ e. nested_at_beside P over act local keeps r o t low p d w ps end same u index lt)
     by_index (inr le) =
         let at = rising_at low u.high r.sequence_index p ps u.rises index in
         let none : length o.after ≤ 0 = elim (cases_lt 0 (length o.after)) [ inl some ↦ let b = u.below some in absurd (omega (arith, b, at.1, le)) | inr few ↦ few ] in
         let no : nat_lt p (length (whole d)) ≡ false = more_test p (length (whole d)) le in
-        tested (nat_lt (length o.before + p) (length (whole (framed_cut o t d)))) (nat_lt p (length (whole d))) (is_left t.max_ops) (is_left d.max_ops)
-        (more_test (length o.before + p) (length (whole (framed_cut o t d))) (omega (arith, le, none, long)) ∙ sym no) refl refl (λ e. let both : true ≡ false = sym e ∙ no in cc)
+        tested (nat_lt (length o.before + p) (length (whole w))) (nat_lt p (length (whole d))) (is_left w.max_ops) (is_left d.max_ops)
+        (more_test (length o.before + p) (length (whole w)) (omega (arith, le, none, long)) ∙ sym no) refl refl (λ e. let both : true ≡ false = sym e ∙ no in cc)
 
-one_beside : (P : Placing) → IsOfWhole P → (act : ℕ → Action) → NestedLocal P act → ((i : ℕ) → RuleKeepsParts (act i)) → (r : SequenceLookupRecord) (o : Outside) (t : Inside) (low : ℕ) (d : Cut) (ps : List ℕ) (end : ℕ) → IsUnderway P o t low d ps end
-    → RecordsBeside P o t low d (one_record act r (framed_cut o t d) (farther (length o.before) ps) (length o.before + end)) (one_record act r d ps end)
-one_beside P over act local keeps r o t low d ps end u = by_index (slice_get ps r.sequence_index) refl
+one_beside : (P : Placing) → IsOfWhole P → (act : ℕ → Action) → NestedLocal P act → ((i : ℕ) → RuleKeepsParts (act i)) → (r : SequenceLookupRecord) (o : Outside) (t : Inside) (low : ℕ) (d w : Cut) (ps : List ℕ) (end : ℕ) → IsRecut w (framed_cut o t d) → IsUnderway P o t low d ps end
+    → RecordsBeside P o t low d (one_record act r w (farther (length o.before) ps) (length o.before + end)) (one_record act r d ps end)
+one_beside P over act local keeps r o t low d w ps end same u = by_index (slice_get ps r.sequence_index) refl
   where
-    by_index : (i : Option ℕ) → slice_get ps r.sequence_index ≡ i → RecordsBeside P o t low d (one_record act r (framed_cut o t d) (farther (length o.before) ps) (length o.before + end)) (outcome_at_index act r i d ps end)
-    by_index None e = subst (λ (i : Option ℕ). RecordsBeside P o t low d (outcome_at_index act r i (framed_cut o t d) (farther (length o.before) ps) (length o.before + end)) (Walks d ps end [])) (sym (none_farther (length o.before) ps r.sequence_index e)) (unmoved P o t low d ps end u)
-    by_index (Some p) e = subst (λ (i : Option ℕ). RecordsBeside P o t low d (outcome_at_index act r i (framed_cut o t d) (farther (length o.before) ps) (length o.before + end)) (outcome_at_index act r (Some p) d ps end)) (sym (index_farther (length o.before) ps r.sequence_index p e)) (index_beside P over act local keeps r o t low p d ps end u e)
+    by_index : (i : Option ℕ) → slice_get ps r.sequence_index ≡ i → RecordsBeside P o t low d (one_record act r w (farther (length o.before) ps) (length o.before + end)) (outcome_at_index act r i d ps end)
+    by_index None e = subst (λ (i : Option ℕ). RecordsBeside P o t low d (outcome_at_index act r i w (farther (length o.before) ps) (length o.before + end)) (Walks d ps end [])) (sym (none_farther (length o.before) ps r.sequence_index e)) (unmoved P o t low d w ps end same u)
+    by_index (Some p) e = subst (λ (i : Option ℕ). RecordsBeside P o t low d (outcome_at_index act r i w (farther (length o.before) ps) (length o.before + end)) (outcome_at_index act r (Some p) d ps end)) (sym (index_farther (length o.before) ps r.sequence_index p e)) (index_beside P over act local keeps r o t low p d w ps end same u e)
 
 -- ---- records in turn
 
@@ -309,19 +354,18 @@ stopped_any P o s low c (Walks w qs to es) y = tt
 stopped_any P o s low c (Stops x) y = tt
 
 abbrev IsNext : Placing → Outside → ℕ → (Cut → List ℕ → ℕ → RecordsOutcome) → Type 0
-IsNext P o low next = (s : Inside) (e : Cut) (ps : List ℕ) (end : ℕ) → IsUnderway P o s low e ps end → RecordsBeside P o s low e (next (framed_cut o s e) (farther (length o.before) ps) (length o.before + end)) (next e ps end)
+IsNext P o low next = (s : Inside) (e w : Cut) (ps : List ℕ) (end : ℕ) → IsRecut w (framed_cut o s e) → IsUnderway P o s low e ps end → RecordsBeside P o s low e (next w (farther (length o.before) ps) (length o.before + end)) (next e ps end)
 
-then_beside : (P : Placing) (o : Outside) (t : Inside) (low : ℕ) (d : Cut) (a b : RecordsOutcome) (next : Cut → List ℕ → ℕ → RecordsOutcome) → RecordsBeside P o t low d a b → RecordsSpend (framed_cut o t d) a → RecordsSpend d b → ((c : Cut) (ps : List ℕ) (end : ℕ) → RecordsSpend c (next c ps end)) → IsNext P o low next
+then_beside : (P : Placing) (o : Outside) (t : Inside) (low : ℕ) (d w : Cut) (a b : RecordsOutcome) (next : Cut → List ℕ → ℕ → RecordsOutcome) → w.lig_id ≡ t.lig_id → RecordsBeside P o t low d a b → RecordsSpend w a → RecordsSpend d b → ((c : Cut) (ps : List ℕ) (end : ℕ) → RecordsSpend c (next c ps end)) → IsNext P o low next
     → RecordsBeside P o t low d (then_walk a next) (then_walk b next)
-then_beside P o t low d (Stops x) b next h ha hb spends walk = tt
-then_beside P o t low d (Walks w1 qs to es) (Stops y) next h ha hb spends walk = stopped_any P o t low d (walked_later es (next w1 qs to)) y
-then_beside P o t low d (Walks w1 qs to es) (Walks d1 ps end fs) next h ha hb spends walk = by_next (next w1 qs to) (next d1 ps end) (spends w1 qs to) (spends d1 ps end) after_step
+then_beside P o t low d w (Stops x) b next given h ha hb spends walk = tt
+then_beside P o t low d w (Walks w1 qs to es) (Stops y) next given h ha hb spends walk = stopped_any P o t low d (walked_later es (next w1 qs to)) y
+then_beside P o t low d w (Walks w1 qs to es) (Walks d1 ps end fs) next given h ha hb spends walk = by_next (next w1 qs to) (next d1 ps end) (spends w1 qs to) (spends d1 ps end) after_step
   where
     after_step : (step : IsWalkInside P o t low d w1 qs to es d1 ps end fs) → RecordsBeside P o step.inside low d1 (next w1 qs to) (next d1 ps end)
     after_step step =
-        let same : next w1 qs to ≡ next (framed_cut o step.inside d1) (farther (length o.before) ps) (length o.before + end) =
-        ap (λ (z : Cut). next z qs to) step.cut_is ∙ ap (λ (z : List ℕ). next (framed_cut o step.inside d1) z to) step.indices ∙ ap (λ (z : ℕ). next (framed_cut o step.inside d1) (farther (length o.before) ps) z) step.ends in
-        subst (λ (z : RecordsOutcome). RecordsBeside P o step.inside low d1 z (next d1 ps end)) (sym same) (walk step.inside d1 ps end step.underway)
+        let same : next w1 qs to ≡ next w1 (farther (length o.before) ps) (length o.before + end) = ap (λ (z : List ℕ). next w1 z to) step.indices ∙ ap (λ (z : ℕ). next w1 (farther (length o.before) ps) z) step.ends in
+        subst (λ (z : RecordsOutcome). RecordsBeside P o step.inside low d1 z (next d1 ps end)) (sym same) (walk step.inside d1 w1 ps end step.cut_is step.underway)
 
     two_merges : (gs hs : List Event) → merges (without_concats (gs ++ hs)) ≡ merges (without_concats gs) + merges (without_concats hs)
     two_merges gs hs = ap merges (without_both gs hs) ∙ merges_both (without_concats gs) (without_concats hs)
@@ -357,7 +401,7 @@ then_beside P o t low d (Walks w1 qs to es) (Walks d1 ps end fs) next h ha hb sp
         let my = two_merges fs fs2 in
         let few_x : t.lig_id + merges (without_concats es) ≤ 7 = omega (arith, mx, x.1) in
         let few_y : d.lig_id + merges (without_concats fs) ≤ 7 = omega (arith, my, y.1) in
-        let up_x : w1.lig_id ≤ t.lig_id + merges (without_concats es) = ha.1 few_x in
+        let up_x : w1.lig_id ≤ t.lig_id + merges (without_concats es) = subst (λ (n : ℕ). w1.lig_id ≤ n + merges (without_concats es)) given (ha.1 (omega (arith, few_x, given))) in
         let up_y : d1.lig_id ≤ d.lig_id + merges (without_concats fs) = hb.1 few_y in
         elim (h (sx.0 x.0, few_x) (sy.0 y.0, few_y)) [
           | inl binds ↦ inl (subst (BindOutside (length o.before) (length (whole d)) (length o.after)) (sym (without_both es es2)) (binds_more (length o.before) (length (whole d)) (length o.after) (without_concats es) (without_concats es2) binds))
@@ -369,19 +413,19 @@ then_beside P o t low d (Walks w1 qs to es) (Walks d1 ps end fs) next h ha hb sp
     by_next (Stops x) y sx sy k = tt
 
 each_beside : (P : Placing) → IsOfWhole P → (act : ℕ → Action) → NestedLocal P act → ((i : ℕ) → RuleKeepsParts (act i)) → ((i : ℕ) → IsSpending (act i)) → (records : List SequenceLookupRecord) (o : Outside) (low : ℕ) → IsNext P o low (each_record act records)
-each_beside P over act local keeps spends [] o low = λ s e ps end u. unmoved P o s low e ps end u
-each_beside P over act local keeps spends (r ∷ records) o low = λ s e ps end u.
-    then_beside P o s low e (one_record act r (framed_cut o s e) (farther (length o.before) ps) (length o.before + end)) (one_record act r e ps end) (each_record act records) (one_beside P over act local keeps r o s low e ps end u)
-    (at_index_spends act spends r (slice_get (farther (length o.before) ps) r.sequence_index) (framed_cut o s e) (farther (length o.before) ps) (length o.before + end)) (at_index_spends act spends r (slice_get ps r.sequence_index) e ps end) (λ c qs to. each_spends act spends records c qs to)
+each_beside P over act local keeps spends [] o low = λ s e w ps end same u. unmoved P o s low e w ps end same u
+each_beside P over act local keeps spends (r ∷ records) o low = λ s e w ps end same u.
+    then_beside P o s low e w (one_record act r w (farther (length o.before) ps) (length o.before + end)) (one_record act r e ps end) (each_record act records) (ap (λ (z : Cut). z.lig_id) same) (one_beside P over act local keeps r o s low e w ps end same u)
+    (at_index_spends act spends r (slice_get (farther (length o.before) ps) r.sequence_index) w (farther (length o.before) ps) (length o.before + end)) (at_index_spends act spends r (slice_get ps r.sequence_index) e ps end) (λ c qs to. each_spends act spends records c qs to)
     (each_beside P over act local keeps spends records o low)
 
 -- what must hold of lookups that may be nested in a rule
 abbrev pub NestLocal : Placing → Option (ℕ → Action) → Type 0
 NestLocal P None = Unit {0}
-NestLocal P (Some act) = ((i : ℕ) → IsLocal P (act i)) × ((i : ℕ) → RuleKeepsParts (act i)) × ((i : ℕ) → IsSpending (act i))
+NestLocal P (Some act) = ((i : ℕ) → IsLocalOrIdle P (act i)) × ((i : ℕ) → RuleKeepsParts (act i)) × ((i : ℕ) → IsSpending (act i))
 
 nest_beside : (P : Placing) → IsOfWhole P → (nest : Option (ℕ → Action)) → NestLocal P nest → (records : List SequenceLookupRecord) (o : Outside) (low : ℕ) → IsNext P o low (each_nested nest records)
-nest_beside P over None k records o low = λ s e ps end u. unmoved P o s low e ps end u
+nest_beside P over None k records o low = λ s e w ps end same u. unmoved P o s low e w ps end same u
 nest_beside P over (Some act) k records o low = each_beside P over act k.0 k.1 k.2 records o low
 
 -- ---- after the match
@@ -421,4 +465,4 @@ after_match P over o s c (Walks w qs to es) (Walks d ps end fs) h = by_tests (ho
 pub nested_beside : (P : Placing) → IsOfWhole P → (nest : Option (ℕ → Action)) → NestLocal P nest → (records : List SequenceLookupRecord) (o : Outside) (s : Inside) (c : Cut) (ps : List ℕ) (end : ℕ) → IsUnderway P o s (length c.front) c ps end
     → IsBeside P o s c (cut_after_match (each_nested nest records (framed_cut o s c) (farther (length o.before) ps) (length o.before + end))) (cut_after_match (each_nested nest records c ps end))
 nested_beside P over nest k records o s c ps end u =
-    after_match P over o s c (each_nested nest records (framed_cut o s c) (farther (length o.before) ps) (length o.before + end)) (each_nested nest records c ps end) (nest_beside P over nest k records o (length c.front) s c ps end u)
+    after_match P over o s c (each_nested nest records (framed_cut o s c) (farther (length o.before) ps) (length o.before + end)) (each_nested nest records c ps end) (nest_beside P over nest k records o (length c.front) s c (framed_cut o s c) ps end refl u)

@@ -17,7 +17,7 @@ use Rattle.buffer_parts.specs.Breaks.Fragments.{with_ligature_renamed}
 use Rattle.layout_match.specs.Trying.{after_outcome, outcome_past_item, trial_at, trials}
 use Rattle.layout_laws.specs.Breaks.Frames.{Outside, Inside, named_items, framed_cut, IsFramed}
 use Rattle.layout_laws.specs.Breaks.Binding.{BindOutside}
-use Rattle.layout_laws.specs.Breaks.Local.{Placing, IsMadeInside, IsBeside, IsLocal, IsStep, Steps, IsSteady, IsOfWhole}
+use Rattle.layout_laws.specs.Breaks.Local.{Placing, IsMadeInside, IsBeside, IsIdle, IsBesideOrIdle, IsLocalOrIdle, IsStep, Steps, IsSteady, IsOfWhole}
 use Rattle.layout_laws.proofs.BreakLemmas.PassWalks.{IsEnough, IsWalked, WalksAreLocal}
 use Rattle.layout_laws.proofs.BreakLemmas.Frames.{front_joined, given_both, still_framed, same_extended, extended_twice}
 use Rattle.layout_laws.proofs.BreakLemmas.Outcomes.{refused_beside, limited_beside, binds_beside}
@@ -50,11 +50,12 @@ binds_after left n right (b ∷ bs) es k h = inr (b, refl, k.0, binds_after left
 past_framed : (o : Outside) (s : Inside) (c : Cut) (x : Item) (xs : List Item) → past_item (framed_cut o s (record c { rest = x ∷ xs })) ≡ framed_cut o s (past_item (record c { rest = x ∷ xs }))
 past_framed o s c x xs = ap (λ (ys : List Item). record (framed_cut o s (past_item (record c { rest = x ∷ xs }))) { front = ys }) (front_joined o s c.front (x ∷ []))
 
-past_beside : (P : Placing) → IsOfWhole P → (o : Outside) (s : Inside) (c : Cut) (x : Item) (xs : List Item) (q p : Outcome) → IsFramed o s (record c { rest = x ∷ xs }) → P o (record c { rest = x ∷ xs }) → IsBeside P o s (record c { rest = x ∷ xs }) q p
-    → IsBeside P o s (record c { rest = x ∷ xs }) (outcome_past_item q (framed_cut o s (record c { rest = x ∷ xs }))) (outcome_past_item p (record c { rest = x ∷ xs }))
-past_beside P over o s c x xs (Passes es) (Passes fs) f k h =
+-- an item passed in the text and alone
+past_made : (P : Placing) → IsOfWhole P → (o : Outside) (s : Inside) (c : Cut) (x : Item) (xs : List Item) (es fs : List Event) → IsFramed o s (record c { rest = x ∷ xs }) → P o (record c { rest = x ∷ xs }) → without_concats es ≡ [] → without_concats fs ≡ []
+    → IsMadeInside P o s (record c { rest = x ∷ xs }) (past_item (framed_cut o s (record c { rest = x ∷ xs }))) (past_item (record c { rest = x ∷ xs })) es fs
+past_made P over o s c x xs es fs f k none_there none_here =
     let d : Cut = record c { rest = x ∷ xs } in
-    limited_beside P o s d 1 (framed_cut o s d) d (Acts (past_item (framed_cut o s d)) es) (Acts (past_item d) fs) (λ a b. inr (record {
+    record {
       inside = s;
       cut_is = past_framed o s c x xs;
       frames = still_framed o s d (past_item d) refl (given_both c.lig_id c.front (x ∷ []) f.front (f.rest.0, tt)) f.rest.1 f;
@@ -62,9 +63,15 @@ past_beside P over o s c x xs (Passes es) (Passes fs) f k h =
       some = omega (arith, length-append (c.front ++ x ∷ []) xs, length-append c.front (x ∷ []));
       reach = λ there. omega (arith, length-append (c.front ++ x ∷ []) xs, length-append c.front (x ∷ []));
       placed = over o d (past_item d) (append_assoc c.front (x ∷ []) xs) refl k;
-      events = h.0 ∙ ap (map (shifted_event (length o.before))) (sym h.1);
-      bounded = subst (λ (es : List Event). AreBounded es (length (whole d))) (sym h.1) tt;
-    }))
+      events = none_there ∙ ap (map (shifted_event (length o.before))) (sym none_here);
+      bounded = subst (λ (es : List Event). AreBounded es (length (whole d))) (sym none_here) tt;
+    }
+
+past_beside : (P : Placing) → IsOfWhole P → (o : Outside) (s : Inside) (c : Cut) (x : Item) (xs : List Item) (q p : Outcome) → IsFramed o s (record c { rest = x ∷ xs }) → P o (record c { rest = x ∷ xs }) → IsBeside P o s (record c { rest = x ∷ xs }) q p
+    → IsBeside P o s (record c { rest = x ∷ xs }) (outcome_past_item q (framed_cut o s (record c { rest = x ∷ xs }))) (outcome_past_item p (record c { rest = x ∷ xs }))
+past_beside P over o s c x xs (Passes es) (Passes fs) f k h =
+    let d : Cut = record c { rest = x ∷ xs } in
+    limited_beside P o s d 1 (framed_cut o s d) d (Acts (past_item (framed_cut o s d)) es) (Acts (past_item d) fs) (λ a b. inr (past_made P over o s c x xs es fs f k h.0 h.1))
 past_beside P over o s c x xs (Passes es) (Acts d fs) f k h = absurd h
 past_beside P over o s c x xs (Passes es) (Refuses y) f k h = refused_beside P o s (record c { rest = x ∷ xs }) (outcome_past_item (Passes es) (framed_cut o s (record c { rest = x ∷ xs }))) y
 past_beside P over o s c x xs (Acts w es) (Passes fs) f k h = binds_beside P o s (record c { rest = x ∷ xs }) w es (outcome_past_item (Passes fs) (record c { rest = x ∷ xs })) h
@@ -227,7 +234,7 @@ outcomes_walk P act steady level v u steps n le walk o s c (Acts w1 es) (Acts d 
     (acted_walks P act steady level v u steps n le walk o s c w1 d es fs long h step half theirs.rest ours.rest theirs.rest_is ours.rest_is
     (subst (IsEnough level s.lig_id) (sym theirs.both) ar) (subst (IsEnough level c.lig_id) (sym ours.both) ae)))
 
-item_walks : (P : Placing) (act : Action) → IsOfWhole P → IsLocal P act → IsSteady act → (level : BufferClusterLevel) (v u : View) (steps n : ℕ) → n ≤ steps → IsWalkable P act level v u n → (o : Outside) (s : Inside) (c : Cut) (x : Item) (xs : List Item)
+item_walks : (P : Placing) (act : Action) → IsOfWhole P → IsLocalOrIdle P act → IsSteady act → (level : BufferClusterLevel) (v u : View) (steps n : ℕ) → n ≤ steps → IsWalkable P act level v u n → (o : Outside) (s : Inside) (c : Cut) (x : Item) (xs : List Item)
     → IsFramed o s (record c { rest = x ∷ xs }) → P o (record c { rest = x ∷ xs }) → length {A = Item} (x ∷ xs) ≤ suc n → (r e : Read) → trials act v (suc steps) (framed_cut o s (record c { rest = x ∷ xs })) ≡ Ok r → trials act u (suc n) (record c { rest = x ∷ xs }) ≡ Ok e
     → IsEnough level s.lig_id r → IsEnough level c.lig_id e → Outcomes P act level v u (suc steps) (suc n) o s (record c { rest = x ∷ xs }) r e
 item_walks P act over local steady level v u steps n le walk o s c x xs f k long r e rs is ar ae =
@@ -235,7 +242,7 @@ item_walks P act over local steady level v u steps n le walk o s c x xs f k long
     let w : Cut = framed_cut o s d in
     let q = act w in
     let p = act d in
-    outcomes_walk P act steady level v u steps n le walk o s d (outcome_past_item q w) (outcome_past_item p d) long (never_passes q w) (never_passes p d) (past_beside P over o s c x xs q p f k (local o s d f k (omega arith)))
+    outcomes_walk P act steady level v u steps n le walk o s d (outcome_past_item q w) (outcome_past_item p d) long (never_passes q w) (never_passes p d) (past_either P over o s c x xs q p f k (local o s d f k (omega arith)))
     (steps_past w (with_ligature_renamed s.name x) (named_items s xs ++ o.after) q (steady w (omega arith))) (steps_past c x xs p (steady d (omega arith))) r e rs is ar ae
 
 ended_walks : (P : Placing) (act : Action) (level : BufferClusterLevel) (v u : View) (steps n : ℕ) (o : Outside) (s : Inside) (c : Cut) (r e : Read) → IsFramed o s c → P o c → 0 < length (whole c) → c.rest ≡ [] → trials act v steps (framed_cut o s c) ≡ Ok r → trials act u n c ≡ Ok e → IsEnough level s.lig_id r
@@ -261,7 +268,7 @@ ended_walks P act level v u steps n o s c r e f k some none rs is ar =
       fuel = omega arith;
     }))
 
-rest_walks : (P : Placing) (act : Action) → IsOfWhole P → IsLocal P act → IsSteady act → (level : BufferClusterLevel) (v u : View) (n : ℕ) → IsWalkable P act level v u n → (steps : ℕ) (o : Outside) (s : Inside) (c : Cut) (r e : Read) (ys : List Item) → c.rest ≡ ys → IsFramed o s c → P o c → 0 < length (whole c) → length c.rest ≤ suc n
+rest_walks : (P : Placing) (act : Action) → IsOfWhole P → IsLocalOrIdle P act → IsSteady act → (level : BufferClusterLevel) (v u : View) (n : ℕ) → IsWalkable P act level v u n → (steps : ℕ) (o : Outside) (s : Inside) (c : Cut) (r e : Read) (ys : List Item) → c.rest ≡ ys → IsFramed o s c → P o c → 0 < length (whole c) → length c.rest ≤ suc n
     → suc n ≤ steps → trials act v steps (framed_cut o s c) ≡ Ok r → trials act u (suc n) c ≡ Ok e → IsEnough level s.lig_id r → IsEnough level c.lig_id e → Outcomes P act level v u steps (suc n) o s c r e
 rest_walks P act over local steady level v u n walk steps o s c r e [] g f k some long le rs is ar ae = ended_walks P act level v u steps (suc n) o s c r e f k some g rs is ar
 rest_walks P act over local steady level v u n walk zero o s c r e (x ∷ xs) g f k some long le rs is ar ae = absurd (omega (arith, le))
@@ -270,7 +277,7 @@ rest_walks P act over local steady level v u n walk (suc steps) o s c r e (x ∷
     subst Q (ap (λ (zs : List Item). record c { rest = zs }) (sym g))
     (λ f k long rs is ae. item_walks P act over local steady level v u steps n (omega (arith, le)) walk o s c x xs f k long r e rs is ar ae) f k long rs is ae
 
-walks_from : (P : Placing) (act : Action) → IsOfWhole P → IsLocal P act → IsSteady act → (level : BufferClusterLevel) (v u : View) (n : ℕ) → IsWalkable P act level v u n
+walks_from : (P : Placing) (act : Action) → IsOfWhole P → IsLocalOrIdle P act → IsSteady act → (level : BufferClusterLevel) (v u : View) (n : ℕ) → IsWalkable P act level v u n
 walks_from P act over local steady level v u zero steps o s c r e f k some long le rs is ar ae = by_rest c.rest refl
   where
     by_rest : (ys : List Item) → c.rest ≡ ys → Outcomes P act level v u steps zero o s c r e

@@ -2,6 +2,7 @@
 use Rattle.std.proofs.Common.{ℕ, zero, suc, ◌+◌, ◌-◌, ◌&&◌, Bool, true, false, if◌then◌else◌, List, [], Option, Some, None, Result, Ok, Err, length, reverse}
 use Rattle.std.specs.Prelude.{slice_get, option_and_then}
 use Rattle.buffer_common.specs.declared.direction.Direction.{Direction}
+use Rattle.buffer_glyphs.specs.Events.{Event}
 use Rattle.buffer_glyphs.specs.Items.{Item, Position}
 use Rattle.buffer_glyphs.specs.LigatureWords.{is_mark}
 use Rattle.buffer_rows.specs.Keys.{row_of}
@@ -28,10 +29,10 @@ use Rattle.layout_match.specs.Applied.{ApplyContext}
 use Rattle.layout_contexts.specs.Chains.{context_subtable}
 use Rattle.layout_gpos.specs.Anchors.{with_mark_attached, with_attachment_flag}
 use Rattle.layout_gpos.specs.Moving.{break_around, cut_with_positions, strict_break_around}
-use Rattle.layout_gpos.specs.Values.{with_adjusted_position, is_zero}
+use Rattle.layout_gpos.specs.Values.{with_adjusted_position}
 use Rattle.layout_gpos.specs.Singles.{single_adjusted, single_subtable}
 use Rattle.layout_tables.specs.Covers.{covers_first_of_pair}
-use Rattle.layout_gpos.specs.Pairs.{pair_adjusted, pair_length, has_no_effect, pair_of, pair_second, next_item, pair_values, pair_from, pair_subtable}
+use Rattle.layout_gpos.specs.Pairs.{pair_adjusted, pair_has_no_effect, pair_length, takes_glyphs, pair_of, pair_second, next_item, pair_values, pair_from, pair_subtable}
 use Rattle.layout_gpos.specs.Marks.{attach_if, is_there, with_found, on_base, mark_on_base, mark_to_base, on_component, component_in, on_ligature, item_before, among_marks, mark_on_ligature, mark_to_ligature, belong_together, on_mark, mark_on_mark, mark_to_mark}
 use Rattle.layout_positioning.specs.Joins.{join_if, exit_of, on_exit, entry_of, from_entry, cursive_subtable}
 use Rattle.layout_positioning.specs.Lookups.{first_subtable, under_flag, nested_lookup, nested_actions, lookup_action}
@@ -55,14 +56,19 @@ value_related w i ways d (Some v) c = ways.placed i 1 (with_adjusted_position d 
 single_related : (w : Limits) (i : w.Index) → IsPositioned w → (d : Direction) (rows : List (GlyphRow ValueRecord)) → IsRelated w i (single_subtable d rows)
 single_related w i ways d rows c = item_related w i ways.closed (λ x. single_adjusted d (value_of x.number rows)) c (λ x e. value_related w i ways d (value_of x.number rows) c)
 
+-- the events of a pair, by whether it is null, and whether it takes its glyphs from other pairs
+abbrev pub events_by : Bool → Bool → ℕ → Cut → List Event
+events_by null takes apart c = if null then (if takes then strict_break_around (apart + 1) c else []) else break_around 0 (apart + 1) c
+
 values_related : (w : Limits) (i : w.Index) → IsPositioned w → (d : Direction) (apart : ℕ) (o : Option PairValues) → IsRelated w i (pair_of d apart o)
 values_related w i ways d apart None c = ways.closed.attempts i 0 (apart + 1) c
-values_related w i ways d apart (Some v) c = by_effect (is_zero v.first && has_no_effect v.second)
+values_related w i ways d apart (Some v) c = by_events (pair_has_no_effect v) (takes_glyphs apart v.second)
   where
-    by_effect : (none : Bool) → w.Holds i c (Acts (cut_with_positions (pair_length apart v.second) (pair_adjusted d (length c.front) (length c.front + apart) v c.positions) c) (if none then strict_break_around (apart + 1) c else break_around 0 (apart + 1) c))
-        (Acts (cut_with_positions (pair_length apart v.second) (pair_adjusted d (length c.front) (length c.front + apart) v c.positions) (recut w i c)) (if none then strict_break_around (apart + 1) c else break_around 0 (apart + 1) c))
-    by_effect true = ways.strictly_broken i (pair_length apart v.second) (apart + 1) (pair_adjusted d (length c.front) (length c.front + apart) v c.positions) c
-    by_effect false = ways.broken i (pair_length apart v.second) 0 (apart + 1) (pair_adjusted d (length c.front) (length c.front + apart) v c.positions) c
+    by_events : (null takes : Bool) → w.Holds i c (Acts (cut_with_positions (pair_length apart v.second) (pair_adjusted d (length c.front) (length c.front + apart) v c.positions) c) (events_by null takes apart c))
+        (Acts (cut_with_positions (pair_length apart v.second) (pair_adjusted d (length c.front) (length c.front + apart) v c.positions) (recut w i c)) (events_by null takes apart c))
+    by_events true true = ways.strictly_broken i (pair_length apart v.second) (apart + 1) (pair_adjusted d (length c.front) (length c.front + apart) v c.positions) c
+    by_events true false = ways.placed i (pair_length apart v.second) (pair_adjusted d (length c.front) (length c.front + apart) v c.positions) c
+    by_events false takes = ways.broken i (pair_length apart v.second) 0 (apart + 1) (pair_adjusted d (length c.front) (length c.front + apart) v c.positions) c
 
 second_related : (w : Limits) (i : w.Index) → IsPositioned w → (d : Direction) (values : Item → Option PairValues) (o : Result ℕ ℕ) → IsRelated w i (pair_second d values o)
 second_related w i ways d values (Err end) c = ways.closed.attempts i 0 end c

@@ -2,7 +2,7 @@
 use Rattle.std.specs.Prelude.{ℕ, ◌≡◌, ◌≤◌, ◌<◌, ◌+◌, ◌⊎◌, true, List, [], length, map}
 use Rattle.buffer_glyphs.specs.Events.{Event}
 use Rattle.buffer_glyphs.specs.Rewriting.{shifted_event}
-use Rattle.buffer_stages.specs.Actions.{Cut, whole, Outcome, Passes, Acts, Refuses, Action}
+use Rattle.buffer_stages.specs.Actions.{Cut, whole, past_item, Outcome, Passes, Acts, Refuses, Action}
 use Rattle.buffer_parts.specs.Counts.{count_after}
 use Rattle.buffer_parts.specs.Counting.{is_left}
 use Rattle.buffer_parts.specs.Breaks.Concat.{without_concats}
@@ -55,6 +55,24 @@ IsBeside P o s c (Refuses x) p = Unit {0}
 -- a rule is local: at each item of a fragment it does alone what it does in the text, or binds the fragment to what is outside
 abbrev pub IsLocal : Placing → Action → Type 0
 IsLocal P act = (o : Outside) (s : Inside) (c : Cut) → IsFramed o s c → P o c → 0 < length c.rest → IsBeside P o s c (act (framed_cut o s c)) (act c)
+
+-- a rule is idle at a cut of a fragment: in the text it acts, and does no more than to pass the item; alone it passes. So does a null pair
+-- (OpenType, GPOS lookup type 2) whose second glyph is the first one after the fragment
+pub record IsIdle (o : Outside) (s : Inside) (c : Cut) (p q : Outcome) : Type 0 where
+  pub theirs : List Event
+  pub ours : List Event
+  pub acts : p ≡ Acts (past_item (framed_cut o s c)) theirs
+  pub passes : q ≡ Passes ours
+  pub none_there : without_concats theirs ≡ []
+  pub none_here : without_concats ours ≡ []
+
+-- what a rule does to a fragment is what it does to the text, or it binds the fragment to what is outside, or is idle
+abbrev pub IsBesideOrIdle : Placing → Outside → Inside → Cut → Outcome → Outcome → Type 0
+IsBesideOrIdle P o s c p q = IsBeside P o s c p q ⊎ IsIdle o s c p q
+
+-- a rule is local at each item of a fragment, or idle there
+abbrev pub IsLocalOrIdle : Placing → Action → Type 0
+IsLocalOrIdle P act = (o : Outside) (s : Inside) (c : Cut) → IsFramed o s c → P o c → 0 < length c.rest → IsBesideOrIdle P o s c (act (framed_cut o s c)) (act c)
 
 -- a rule took its step from a cut: fewer items are left, no budget is given back, at most one ligature number is given for each merge, and
 -- the events leave as many glyphs as there are items

@@ -8,22 +8,23 @@ use Rattle.layout_tables.specs.declared.mark.MarkBasePos.{MarkBasePos}
 use Rattle.layout_tables.specs.declared.mark.MarkLigPos.{MarkLigPos}
 use Rattle.layout_tables.specs.declared.pair.PairPos.{PairPos}
 use Rattle.layout_tables.specs.declared.value.ValueRecord.{ValueRecord}
+use Rattle.buffer_stages.specs.Actions.{first_rule}
 use Rattle.layout_match.specs.Applied.{ApplyContext}
 use Rattle.layout_gpos.specs.Marks.{mark_to_base, mark_to_ligature, mark_to_mark}
 use Rattle.layout_gpos.specs.Pairs.{pair_subtable}
 use Rattle.layout_gpos.specs.Singles.{single_subtable}
 use Rattle.layout_positioning.specs.Joins.{cursive_subtable}
 use Rattle.layout_positioning.specs.Lookups.{lookup_action}
-use Rattle.layout_laws.specs.Breaks.Local.{IsLocal, IsSteady}
+use Rattle.layout_laws.specs.Breaks.Local.{IsLocal, IsLocalOrIdle, IsSteady}
 use Rattle.layout_laws.specs.Breaks.Positioned.{ArePlaced}
 
 -- single adjustment is local
 abbrev pub AdjustmentsAreLocal : Type 0
 AdjustmentsAreLocal = (d : Direction) (rows : List (GlyphRow ValueRecord)) → IsLocal ArePlaced (single_subtable d rows)
 
--- pair adjustment is local, by glyphs and by classes
+-- pair adjustment is local or idle, by glyphs and by classes: the subtables of a lookup, of which the first that matches is applied
 abbrev pub PairsAreLocal : Type 0
-PairsAreLocal = (d : Direction) (a : ApplyContext) (s : PairPos) → IsLocal ArePlaced (pair_subtable d a s)
+PairsAreLocal = (d : Direction) (a : ApplyContext) (subtables : List PairPos) → IsLocalOrIdle ArePlaced (first_rule (pair_subtable d a) subtables)
 
 -- cursive attachment is local, also where an old chain is reversed
 abbrev pub JoinsAreLocal : Type 0
@@ -35,9 +36,9 @@ pub record MarksAreLocal : Type 0 where
   pub ligatures : (a : ApplyContext) (s : MarkLigPos) → IsLocal ArePlaced (mark_to_ligature a s)
   pub marks : (a : ApplyContext) (s : MarkBasePos) → IsLocal ArePlaced (mark_to_mark a s)
 
--- each lookup of positioning is local, of each type, contexts with nested lookups too
+-- each lookup of positioning is local or idle, of each type, contexts with nested lookups too
 abbrev pub PositioningsAreLocal : Type 0
-PositioningsAreLocal = (table : List PositioningLookup) (d : Direction) (a : ApplyContext) (lookup : PositioningLookup) → IsLocal ArePlaced (lookup_action table d a lookup)
+PositioningsAreLocal = (table : List PositioningLookup) (d : Direction) (a : ApplyContext) (lookup : PositioningLookup) → IsLocalOrIdle ArePlaced (lookup_action table d a lookup)
 
 -- each is steady: where it acts, fewer items are left, no budget is given back, no ligature number is given, and the events leave as
 -- many glyphs as items
