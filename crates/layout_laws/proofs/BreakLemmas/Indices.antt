@@ -1,7 +1,7 @@
 -- The indices of a match in a fragment, and in the text.
 use Rattle.std.proofs.Common.{ℕ, zero, suc, ◌≡◌, ◌≤◌, ◌<◌, ◌+◌, ◌-◌, max, List, [], ◌∷◌, ◌++◌, Some, None, length, map, take, drop, get_or, add-one, arith, refl, ap, sym, subst, ◌∙◌}
 use Rattle.std.specs.Prelude.{slice_get}
-use Rattle.std.proofs.lemmas.List.{map-append, take-map, drop-map, take-append-drop, take_all, length-take}
+use Rattle.std.proofs.lemmas.List.{map-append, take-map, drop-map, append-nil, take-append-drop, take_all, length-take}
 use Rattle.std.proofs.lemmas.Option.{get_or_from_slice_get}
 use Rattle.buffer_facts.proofs.Lists.{map_same}
 use Rattle.layout_contexts.specs.MatchIndices.{AreRising}
@@ -90,9 +90,11 @@ resized low high i before after p ps h e =
 pub unresized : (i n : ℕ) (ps : List ℕ) → length ps ≤ 64 → indices_after_resize i n n ps ≡ ps
 unresized i n ps few =
     let none : n - n ≡ 0 = omega arith in
+    let front = take (i + 1) ps in
     let rest = drop (i + 1) ps in
-    ap (λ (k : ℕ). take 64 (take (i + 1) ps ++ following (get_or ps i 0) k ++ map (λ q. q + n - n) (drop k rest))) none
-    ∙ ap (λ (qs : List ℕ). take 64 (take (i + 1) ps ++ qs)) (map_same (λ q. q + n - n) rest (λ q. omega arith))
+    ap (λ (k : ℕ). take 64 (front ++ following (get_or ps i 0) k ++ map (λ q. q + n - n) (drop k rest))) none
+    ∙ ap (λ (qs : List ℕ). take 64 (qs ++ map (λ q. q + n - n) rest)) (append-nil front)
+    ∙ ap (λ (qs : List ℕ). take 64 (front ++ qs)) (map_same (λ q. q + n - n) rest (λ q. omega arith))
     ∙ ap (take 64) (take-append-drop (i + 1) ps) ∙ take_all 64 ps few
 
 pub end_stays : (p n end : ℕ) → p ≤ end → moved_end p n n end ≡ end

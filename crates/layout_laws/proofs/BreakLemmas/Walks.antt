@@ -79,6 +79,23 @@ past_beside P over o s c x xs (Acts w es) (Acts d fs) f k h = h
 past_beside P over o s c x xs (Acts w es) (Refuses y) f k h = tt
 past_beside P over o s c x xs (Refuses y) p f k h = tt
 
+-- a rule that is idle passes the item
+past_idle : (P : Placing) → IsOfWhole P → (o : Outside) (s : Inside) (c : Cut) (x : Item) (xs : List Item) (q p : Outcome) → IsFramed o s (record c { rest = x ∷ xs }) → P o (record c { rest = x ∷ xs }) → IsIdle o s (record c { rest = x ∷ xs }) q p
+    → IsBeside P o s (record c { rest = x ∷ xs }) (outcome_past_item q (framed_cut o s (record c { rest = x ∷ xs }))) (outcome_past_item p (record c { rest = x ∷ xs }))
+past_idle P over o s c x xs q p f k h =
+    let d : Cut = record c { rest = x ∷ xs } in
+    let w : Cut = framed_cut o s d in
+    subst (λ (z : Outcome). IsBeside P o s d (outcome_past_item z w) (outcome_past_item p d)) (sym h.acts)
+    (subst (λ (z : Outcome). IsBeside P o s d (Acts (past_item w) h.theirs) (outcome_past_item z d)) (sym h.passes) (by_limit (nat_le (length d.front + 1) d.max_len)))
+  where
+    by_limit : (t : Bool) → IsBeside P o s (record c { rest = x ∷ xs }) (Acts (past_item (framed_cut o s (record c { rest = x ∷ xs }))) h.theirs) (if t then Acts (past_item (record c { rest = x ∷ xs })) h.ours else Refuses TooLong)
+    by_limit true = λ a b. inr (past_made P over o s c x xs h.theirs h.ours f k h.none_there h.none_here)
+    by_limit false = tt
+
+past_either : (P : Placing) → IsOfWhole P → (o : Outside) (s : Inside) (c : Cut) (x : Item) (xs : List Item) (q p : Outcome) → IsFramed o s (record c { rest = x ∷ xs }) → P o (record c { rest = x ∷ xs }) → IsBesideOrIdle P o s (record c { rest = x ∷ xs }) q p
+    → IsBeside P o s (record c { rest = x ∷ xs }) (outcome_past_item q (framed_cut o s (record c { rest = x ∷ xs }))) (outcome_past_item p (record c { rest = x ∷ xs }))
+past_either P over o s c x xs q p f k h = elim h [ inl beside ↦ past_beside P over o s c x xs q p f k beside | inr idle ↦ past_idle P over o s c x xs q p f k idle ]
+
 -- ---- what is read
 
 -- a reading after another
