@@ -66,13 +66,3 @@ carets_lead_back l i c is at = record {
 }
 
 -- ---- the caret to the left
-
--- nothing is to the left of the first caret
-pub left_of_first : (cs : List Caret) (o : Option ℕ) (i : ℕ) → o ≡ Some i → ¬ (1 ≤ i) → None ≡ option_and_then (left_of cs) o
-left_of_first cs o zero same none = ap (option_and_then (left_of cs)) (sym same)
-left_of_first cs o (suc i) same none = absurd (none (omega arith))
-
--- the caret to the left of a later one
-pub left_of_later : (cs : List Caret) (o : Option ℕ) (i : ℕ) → o ≡ Some i → 1 ≤ i → slice_get cs (i - 1) ≡ option_and_then (left_of cs) o
-left_of_later cs o zero same some = absurd (omega (arith, some))
-left_of_later cs o (suc i) same some = let before : suc i - 1 ≡ i = omega arith in ap (slice_get cs) before ∙ ap (option_and_then (left_of cs)) (sym same)

@@ -114,11 +114,3 @@ carets_in_order l i j c d is less at to =
     chain_at (IsPast l.backward) (map (λ (e : Caret). e.byte) l.carets) i j c.byte d.byte
     (subst (IsChain (IsPast l.backward)) (sym is.bytes) (bytes_in_order l.backward l.end l.slices is.joined))
     less (byte_at l.carets i c at) (byte_at l.carets j d to)
-
--- a line has a caret
-pub some_caret : (l : Line) → IsLine l → 0 < length l.carets
-some_caret l is =
-    let as_many = ap length is.bytes in
-    let old = length-map l.carets (λ (c : Caret). c.byte) in
-    let new = length_push (map (left_byte l.backward) l.slices) (right_end l.backward l.end) in
-    omega (arith, as_many, old, new)

@@ -97,17 +97,6 @@ caret_added d ps ss i at pen next cs new e b are within is byte added =
     let P : List Caret → Type 0 = λ ds. AreCaretsTo d ps ss (i + 1) s.end_glyph next ds in
     subst P (sym (added ∙ ap (λ n. cs ++ caret_of n pen ∷ []) byte)) (carets_more d ps ss i at pen next cs s are within (get_or_default ss i e s within) is)
 
--- after all runs, with the last caret
-pub carets_whole : (d : Direction) (ps : List GlyphPosition) (ss : List SourceSlice) (i at end byte : ℕ) (pen : ℤ) (cs : List Caret) → AreCaretsTo d ps ss i at pen cs → length ss ≤ i → byte ≡ (last_caret d ps end).byte
-    → cs ++ caret_of byte pen ∷ [] ≡ carets_of d ps end ss
-carets_whole d ps ss i at end byte pen cs are past same =
-    let P : List SourceSlice → Type 0 = λ rs. AreJoined at (length ps) (map glyph_range rs) in
-    let last : at ≡ length ps = subst P (drop_all i ss past) are.rest in
-    let position : pen ≡ pen_at d ps (length ps) = are.pen.sum ∙ ap (pen_at d ps) last in
-    ap (λ ds. ds ++ caret_of byte pen ∷ []) (are.carets ∙ ap (map (run_caret d ps)) (take_all i ss past))
-    ∙ ap (λ z. map (run_caret d ps) ss ++ caret_of byte z ∷ []) position
-    ∙ ap (λ b. map (run_caret d ps) ss ++ caret_of b (pen_at d ps (length ps)) ∷ []) same
-
 -- ---- the bytes of carets
 
 bytes_then : (d : Direction) (ps : List GlyphPosition) (ss : List SourceSlice) (last : Caret) → map (λ (c : Caret). c.byte) (map (run_caret d ps) ss ++ last ∷ []) ≡ map (left_byte (is_backward d)) ss ++ last.byte ∷ []

@@ -21,14 +21,6 @@ pub means_of : {A : Type 0} (meant answer : Result A JsonFault) → IfOk answer 
 means_of meant (Ok a) ok refused = ok
 means_of meant (Err e) ok refused = refused
 
-pub means_ok : {A : Type 0} (meant answer : Result A JsonFault) → Means meant answer → IfOk answer (λ a. meant ≡ Ok a)
-means_ok meant (Ok a) h = h
-means_ok meant (Err e) h = tt
-
-pub means_refused : {A : Type 0} (meant answer : Result A JsonFault) → Means meant answer → IfErr answer (λ e. e ≢ OutOfMemory → meant ≡ Err e)
-means_refused meant (Ok a) h = tt
-means_refused meant (Err e) h = h
-
 -- ---- the fault that comes first
 
 memory_first : (f : JsonFault) → first_fault OutOfMemory f ≡ OutOfMemory
@@ -79,12 +71,6 @@ no_memory_right : (e f : JsonFault) → first_fault e f ≢ OutOfMemory → f �
 no_memory_right e f ne same = ne (ap (λ x. first_fault e x) same ∙ memory_last e)
 
 -- ---- items
-
-pub means_both : {A B : Type 0} (m : Result A JsonFault) (n : Result B JsonFault) (a : Result A JsonFault) (b : Result B JsonFault) → Means m a → Means n b → Means (both m n) (both a b)
-means_both m n (Ok x) (Ok y) p q = rw (p, q) refl
-means_both m n (Ok x) (Err f) p q = λ ne. let r : n ≡ Err f = q ne in rw (p, r) refl
-means_both m n (Err e) (Ok y) p q = λ ne. let r : m ≡ Err e = p ne in rw (r, q) refl
-means_both m n (Err e) (Err f) p q = λ ne. let r : m ≡ Err e = p (no_memory_left e f ne) in let s : n ≡ Err f = q (no_memory_right e f ne) in rw (r, s) refl
 
 means_after : {A : Type 0} (m : Result (List A) JsonFault) (n : Result A JsonFault) (a : Result (List A) JsonFault) (b : Result A JsonFault) → Means m a → Means n b → Means (after_all m n) (after_all a b)
 means_after m n (Ok x) (Ok y) p q = rw (p, q) refl

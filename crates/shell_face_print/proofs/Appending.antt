@@ -68,10 +68,6 @@ pub last_member : (s₀ s₁ s₂ : List Token) (name : List ℕ) (d : Option Da
 last_member s₀ s₁ s₂ name None e₁ e₂ = two s₀ s₁ s₂ [] (end_object ∷ []) e₁ e₂
 last_member s₀ s₁ s₂ name (Some d) e₁ e₂ = two s₀ s₁ s₂ (optional_tokens name (Some d)) (end_object ∷ []) e₁ e₂
 
--- a key, and the members after it
-pub member_two : (s₀ s₁ s₂ a b : List Token) (k : Token) → s₁ ≡ s₀ ++ k ∷ a → s₂ ≡ s₁ ++ b → s₂ ≡ s₀ ++ k ∷ (a ++ b)
-member_two s₀ s₁ s₂ a b k e₁ e₂ = two s₀ s₁ s₂ (k ∷ a) b e₁ e₂
-
 -- two keys, and the members after them
 pub member_three : (s₀ s₁ s₂ s₃ a b c : List Token) (k l : Token)
     → s₁ ≡ s₀ ++ k ∷ a → s₂ ≡ s₁ ++ l ∷ b → s₃ ≡ s₂ ++ c → s₃ ≡ s₀ ++ k ∷ (a ++ l ∷ (b ++ c))
