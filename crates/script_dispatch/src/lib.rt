@@ -8,7 +8,6 @@ pub mod hooks;
 pub mod laws;
 pub mod plan_data;
 pub mod planned;
-mod scripts;
 pub mod shaper;
 
 pub use any_shaper::{DEFAULT_SHAPER, DUMBER_SHAPER, hb_ot_any_shaper_t};

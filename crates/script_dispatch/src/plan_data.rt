@@ -1,7 +1,7 @@
 //! What the scripts' shapers make of a compiled map, their data_create (rustybuzz: hb/ot_shaper_arabic.rs,
 //! hb/ot_shaper_hangul.rs, hb/ot_shaper_indic.rs, hb/ot_shaper_khmer.rs, hb/ot_shaper_use.rs).
 ghost use Rattle.std.specs.Prelude.{◌≡◌};
-ghost use Rattle.script_dispatch.specs.PlanData.{indic_features, script_data};
+ghost use Rattle.script_dispatch.specs.PlanData.{indic_features};
 ghost use Rattle.script_hangul.specs.MapMasks.{jamo_masks};
 ghost use Rattle.script_khmer.specs.Masks.{khmer_masks};
 
@@ -9,10 +9,7 @@ use buffer_common::script::Script;
 use buffer_common::tag::Tag;
 use buffer_glyphs::info::hb_mask_t;
 use layout_map::map::hb_ot_map_t;
-use script_arabic::masks::{arabic_shape_plan_t, data_create_arabic};
-use script_categories::hb_ot_script_shaper_t::{
-    self, ARABIC_SHAPER, HANGUL_SHAPER, INDIC_SHAPER, KHMER_SHAPER, UNIVERSAL_SHAPER,
-};
+use script_arabic::masks::arabic_shape_plan_t;
 use script_hangul::masks::JamoMasks;
 use script_indic::config::indic_config;
 use script_indic::would_substitute::IndicWouldSubstituteFeature;
@@ -45,27 +42,8 @@ pub enum hb_script_plan_data_t {
     Universal(hb_mask_t),
 }
 
-/// The data that a script's shaper has of a compiled map, for texts of a script. It takes no memory.
-pub(crate) fn create_data(
-    shaper: hb_ot_script_shaper_t,
-    map: &hb_ot_map_t,
-    script: Option<Script>,
-) -> hb_script_plan_data_t
-    ensures { result ≡ script_data shaper map.now script }
-{
-    match shaper {
-        ARABIC_SHAPER => hb_script_plan_data_t::Arabic(data_create_arabic(map, script)),
-        HANGUL_SHAPER => hb_script_plan_data_t::Hangul(jamo_masks(map)),
-        INDIC_SHAPER => hb_script_plan_data_t::Indic(indic_features(map, script)),
-        KHMER_SHAPER => hb_script_plan_data_t::Khmer(khmer_masks(map)),
-        UNIVERSAL_SHAPER => {
-            hb_script_plan_data_t::Universal(map.get_1_mask(Tag::from_bytes(b"rphf")))
-        }
-        _ => hb_script_plan_data_t::None,
-    }
-}
-
-fn jamo_masks(map: &hb_ot_map_t) -> JamoMasks
+/// The masks of the features of the three kinds of jamo.
+pub(crate) fn jamo_masks(map: &hb_ot_map_t) -> JamoMasks
     ensures { result ≡ jamo_masks map.now }
 {
     JamoMasks {
@@ -75,7 +53,8 @@ fn jamo_masks(map: &hb_ot_map_t) -> JamoMasks
     }
 }
 
-fn khmer_masks(map: &hb_ot_map_t) -> KhmerMasks
+/// The masks of the features of a Khmer syllable.
+pub(crate) fn khmer_masks(map: &hb_ot_map_t) -> KhmerMasks
     ensures { result ≡ khmer_masks map.now }
 {
     let blwf = map.get_1_mask(Tag::from_bytes(b"blwf"));
@@ -89,7 +68,7 @@ fn khmer_masks(map: &hb_ot_map_t) -> KhmerMasks
 }
 
 /// The five features, tested by rules without context alone where the script's config says so.
-fn indic_features(map: &hb_ot_map_t, script: Option<Script>) -> IndicFeatures
+pub(crate) fn indic_features(map: &hb_ot_map_t, script: Option<Script>) -> IndicFeatures
     ensures { result ≡ indic_features map.now script }
 {
     let zero_context = indic_config(script).zero_context;

@@ -5,13 +5,15 @@ ghost use Rattle.script_dispatch.specs.Shapers.{traits_of};
 
 use crate::any_shaper::{DEFAULT_SHAPER, hb_ot_any_shaper_t};
 use crate::dispatch::hb_ot_shape_complex_categorize;
-use crate::scripts;
 use buffer_common::direction::Direction;
 use buffer_common::script::Script;
 use buffer_common::tag::Tag;
 use buffer_properties::NormalizationMode;
 use layout_map::builder::hb_ot_map_builder_t;
 use layout_map::map::hb_ot_map_t;
+use script_categories::hb_ot_script_shaper_t::{
+    ARABIC_SHAPER, HANGUL_SHAPER, INDIC_SHAPER, KHMER_SHAPER, MYANMAR_SHAPER, UNIVERSAL_SHAPER,
+};
 use script_plan::planned::{CategorizedShaper, PlannedShaper, hb_ot_shape_zero_width_marks_type_t};
 use std::alloc::{AllocError, Global};
 
@@ -48,8 +50,23 @@ impl PlannedShaper for hb_ot_any_shaper_t {
         script: Option<Script>,
     ) -> Result<(), AllocError> {
         match *self {
-            hb_ot_any_shaper_t::Script(shaper) => {
-                scripts::collect_features(shaper, builder, script)
+            hb_ot_any_shaper_t::Script(ARABIC_SHAPER) => {
+                script_arabic::requests::collect_features(builder, script)
+            }
+            hb_ot_any_shaper_t::Script(HANGUL_SHAPER) => {
+                script_hangul::requests::collect_features(builder)
+            }
+            hb_ot_any_shaper_t::Script(INDIC_SHAPER) => {
+                script_indic::requests::collect_features(builder)
+            }
+            hb_ot_any_shaper_t::Script(KHMER_SHAPER) => {
+                script_khmer::requests::collect_features(builder)
+            }
+            hb_ot_any_shaper_t::Script(MYANMAR_SHAPER) => {
+                script_myanmar::requests::collect_features(builder)
+            }
+            hb_ot_any_shaper_t::Script(UNIVERSAL_SHAPER) => {
+                script_universal::requests::collect_features(builder)
             }
             _ => Ok(()),
         }
@@ -61,7 +78,15 @@ impl PlannedShaper for hb_ot_any_shaper_t {
         _script: Option<Script>,
     ) -> Result<(), AllocError> {
         match *self {
-            hb_ot_any_shaper_t::Script(shaper) => scripts::override_features(shaper, builder),
+            hb_ot_any_shaper_t::Script(HANGUL_SHAPER) => {
+                script_hangul::requests::override_features(builder)
+            }
+            hb_ot_any_shaper_t::Script(INDIC_SHAPER) => {
+                script_indic::requests::override_features(builder)
+            }
+            hb_ot_any_shaper_t::Script(KHMER_SHAPER) => {
+                script_khmer::requests::override_features(builder)
+            }
             _ => Ok(()),
         }
     }

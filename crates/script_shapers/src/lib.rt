@@ -11,4 +11,7 @@ pub use script_categories::{
 };
 pub use script_dispatch::hooks::ScriptHooks;
 pub use script_dispatch::plan_data::{IndicFeatures, hb_script_plan_data_t};
+pub use script_dispatch::{DEFAULT_SHAPER, DUMBER_SHAPER, hb_ot_any_shaper_t};
+pub use script_plan::hb_ot_shaper_t;
 pub use script_plan::plan::hb_script_plan_t;
+pub use script_plan::planned::PlannedShaper;
