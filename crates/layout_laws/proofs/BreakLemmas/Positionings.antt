@@ -12,7 +12,6 @@ use Rattle.layout_match.specs.Applied.{ApplyContext}
 use Rattle.layout_match.specs.Trying.{meets, at_met}
 use Rattle.layout_contexts.specs.Chains.{context_subtable}
 use Rattle.layout_gpos.specs.Marks.{mark_to_base, mark_to_ligature, mark_to_mark}
-use Rattle.layout_gpos.specs.Pairs.{pair_subtable}
 use Rattle.layout_gpos.specs.Singles.{single_subtable}
 use Rattle.layout_positioning.specs.Joins.{cursive_subtable}
 use Rattle.layout_positioning.specs.Lookups.{first_subtable, under_flag, nested_lookup, nested_actions, lookup_action}

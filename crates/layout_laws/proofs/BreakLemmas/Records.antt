@@ -118,8 +118,9 @@ IsRecut w v = cut_at 0 w ≡ cut_at 0 v
 
 -- ---- records under way
 
--- a fragment is framed by a text, on the way over the records of a rule that was tried at the index `low` of the fragment: the indices of the match, at most 64, rise, up to the match's end at most; and
--- where items follow the fragment, none is past its last item, nor is the match's end past it
+-- a fragment is framed by a text, on the way over the records of a rule that was tried at the index `low` of the fragment: the indices of
+-- the match rise, 64 at most, and none is past the match's end; where items follow the fragment, none is past its last item, nor is the
+-- match's end past it
 pub record IsUnderway (P : Placing) (o : Outside) (s : Inside) (low : ℕ) (c : Cut) (ps : List ℕ) (end : ℕ) : Type 0 where
   pub frames : IsFramed o s c
   pub placed : P o c
@@ -315,9 +316,6 @@ index_beside P over act local keeps r o t low p d w ps end same u index = by_ind
   where
     long : length (whole w) ≡ length o.before + length (whole d) + length o.after
     long = ap (λ (z : Cut). length (whole z)) same ∙ whole_long o t d
-
-    budget : w.max_ops ≡ t.max_ops
-    budget = ap (λ (z : Cut). z.max_ops) same
 
     tested : (a b x y : Bool) → a ≡ b → is_left w.max_ops ≡ x → is_left d.max_ops ≡ y → (b ≡ true → RecordsBeside P o t low d (nested_outcome_at act r (length o.before + p) (with_budget_spent w) (farther (length o.before) ps) (length o.before + end)) (nested_outcome_at act r p (with_budget_spent d) ps end))
         → RecordsBeside P o t low d (if a && x then nested_outcome_at act r (length o.before + p) (with_budget_spent w) (farther (length o.before) ps) (length o.before + end) else Walks w (farther (length o.before) ps) (length o.before + end) [])

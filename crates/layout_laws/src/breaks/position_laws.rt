@@ -1,5 +1,5 @@
-//! Lookups of positioning are local and steady: what they do to a fragment of a text alone, they do in the text, or they
-//! bind it to what is outside.
+//! Lookups of positioning are local or idle, and steady: what they do to a fragment of a text alone, they do in the text,
+//! or they bind it to what is outside, or only pass a glyph.
 ghost use Rattle.layout_laws.specs.Breaks.PositionLaws.{AdjustmentsAreLocal, JoinsAreLocal, MarksAreLocal, PairsAreLocal, PositioningsAreLocal, PositioningsAreSteady};
 ghost use Rattle.layout_laws.specs.Breaks.PositionsInOrder.{ClearedLinksLeadInside, PositioningsAreDivisible, PositioningsDivideInTurn, PositioningsInOrderAreDivisible};
 
@@ -8,7 +8,7 @@ pub fn law_adjustments_are_local()
     ensures { AdjustmentsAreLocal }
 {}
 
-/// Pair adjustment is local.
+/// Pair adjustment is local, or idle at a null pair.
 pub fn law_pairs_are_local()
     ensures { PairsAreLocal }
 {}
@@ -23,7 +23,7 @@ pub fn law_marks_are_local()
     ensures { MarksAreLocal }
 {}
 
-/// Each lookup of positioning is local, of each type, with the lookups nested in it.
+/// Each lookup of positioning is local or idle, of each type, with the lookups nested in it.
 pub fn law_positionings_are_local()
     ensures { PositioningsAreLocal }
 {}
