@@ -1,0 +1,5 @@
+mod UnitSteps
+mod Utf16
+mod Utf32
+mod Pushed
+mod Around

@@ -1,0 +1,13 @@
+use Rattle.std.proofs.Common.{◌≡◌, ◌≤◌, ◌+◌, length}
+use Rattle.c_characters.specs.Characters.{characters_from, characters_of}
+use Rattle.c_characters.proofs.contexts.count_characters.Given as goal
+
+abbrev pub invariant-characters : goal.invariant-characters
+invariant-characters l = record {
+  within : l.at + length l.rest ≤ length l.bytes;
+  few : l.count + length l.rest ≤ length l.bytes;
+  counted : l.count + length (characters_from l.encoding l.at l.rest) ≡ length (characters_of l.encoding l.bytes);
+}
+
+abbrev pub decreases-characters : goal.decreases-characters
+decreases-characters l = length l.rest
