@@ -116,7 +116,12 @@ enum {
   KUS_FLAG_DO_NOT_INSERT_DOTTED_CIRCLE = 16,
   KUS_FLAG_PRODUCE_UNSAFE_TO_CONCAT = 64,
   KUS_FLAG_PRODUCE_SAFE_TO_INSERT_TATWEEL = 128,
-  KUS_FLAG_PRODUCE_SAFE_BREAKS = 256 /* of Kuspveli alone */
+  KUS_FLAG_PRODUCE_SAFE_BREAKS = 256, /* of Kuspveli alone */
+  /* How the characters of the text are passed, of Kuspveli alone: in UTF-16, in UTF-32, or as kus_character_t. Of several
+   * the first holds; without them the text is UTF-8. */
+  KUS_FLAG_UTF16 = 0x10000,
+  KUS_FLAG_UTF32 = 0x20000,
+  KUS_FLAG_CHARACTERS = 0x40000
 };
 
 /* hb_buffer_cluster_level_t */
@@ -140,12 +145,23 @@ enum {
 #define KUS_FEATURE_GLOBAL_START 0
 #define KUS_FEATURE_GLOBAL_END ((uint32_t) -1)
 
+/* A character, and the number of its cluster. */
+typedef struct {
+  uint32_t character, cluster;
+} kus_character_t;
+
 /* hb_feature_t: a value for the clusters from start on, without end. */
 typedef struct {
   uint32_t tag, value, start, end;
 } kus_feature_t;
 
-/* A text in UTF-8, and how it is to be shaped. A glyph's cluster is the index of a byte of the text. */
+/* A text, and how it is to be shaped. All lengths are in bytes.
+ *
+ * Without a flag for it the text is UTF-8, and a glyph's cluster is the index of a byte of it. By KUS_FLAG_UTF16 text,
+ * before and after have units of 16 bits in the machine's order, by KUS_FLAG_UTF32 of 32 bits, and a cluster is the index
+ * of a unit. By KUS_FLAG_CHARACTERS text has kus_character_t, each with its cluster, and before and after are UTF-32. What
+ * is no character there (a surrogate without a partner, a number that is no scalar value) is U+FFFD, and a last unit that
+ * is cut is left out. The ranges of features are of clusters. */
 typedef struct {
   const uint8_t *text;
   size_t text_length;
@@ -253,7 +269,7 @@ size_t kus_get_glyphs (kus_font_t *font, kus_glyph_info_t *infos, size_t infos_r
 uint32_t kus_get_direction (kus_font_t *font);
 uint32_t kus_get_script (kus_font_t *font);
 
-/* The slices of the last text, which is passed again: each run of glyphs of one cluster, in the order of the glyphs,
+/* The slices of the last text, one of UTF-8, which is passed again: each run of glyphs of one cluster, in the order of the glyphs,
  * with its bytes, which end where the next greater cluster begins. They are written as far as there is room, *count is
  * how many there are. Where the glyphs can't be traced to the text, it answers KUS_NO_SLICES: where clusters neither
  * rise nor fall, as they may at the levels that are not monotone and under the Indic shaper, where none is 0, or where
@@ -286,7 +302,7 @@ bool kus_font_get_glyph_extents (kus_font_t *font, uint32_t glyph, kus_glyph_ext
 size_t kus_font_get_feature_tags (kus_font_t *font, uint32_t table, uint32_t *tags, size_t tags_room);
 size_t kus_font_get_script_tags (kus_font_t *font, uint32_t table, uint32_t *tags, size_t tags_room);
 
-/* A text with all settings to be guessed; `utf8` may be NULL where `length` is 0. */
+/* A text in UTF-8 with all settings to be guessed; `utf8` may be NULL where `length` is 0. */
 static inline kus_text_t
 kus_text (const char *utf8, size_t length)
 {
@@ -307,6 +323,33 @@ kus_text (const char *utf8, size_t length)
   text.script = 0;
   text.flags = KUS_FLAG_DEFAULT;
   text.cluster_level = KUS_CLUSTER_LEVEL_MONOTONE_GRAPHEMES;
+  return text;
+}
+
+/* A text in UTF-16, with the length in units; `utf16` may be NULL where it is 0. More flags are added by |=. */
+static inline kus_text_t
+kus_text_utf16 (const uint16_t *utf16, size_t length)
+{
+  kus_text_t text = kus_text ((const char *) utf16, length * sizeof *utf16);
+  text.flags = KUS_FLAG_UTF16;
+  return text;
+}
+
+/* The same in UTF-32. */
+static inline kus_text_t
+kus_text_utf32 (const uint32_t *utf32, size_t length)
+{
+  kus_text_t text = kus_text ((const char *) utf32, length * sizeof *utf32);
+  text.flags = KUS_FLAG_UTF32;
+  return text;
+}
+
+/* The same of characters with clusters of the caller's own, which should rise, or fall. */
+static inline kus_text_t
+kus_text_characters (const kus_character_t *characters, size_t length)
+{
+  kus_text_t text = kus_text ((const char *) characters, length * sizeof *characters);
+  text.flags = KUS_FLAG_CHARACTERS;
   return text;
 }
 

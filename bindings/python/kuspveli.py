@@ -4,6 +4,7 @@ import ctypes
 import enum
 import os
 import re
+import sys
 import threading
 import weakref
 from array import array
@@ -24,6 +25,10 @@ DIRECTIONS = {"": 0, "ltr": 4, "rtl": 5, "ttb": 6, "btt": 7}
 GLOBAL_END = 0xFFFF_FFFF
 # What of a font file is not read (KUS_FONT_WITHOUT_EXTENTS, KUS_FONT_WITHOUT_NAMES).
 WITHOUT_EXTENTS, WITHOUT_NAMES = 1, 2
+# How a text is passed, by what its clusters are: the name of the encoding in the machine's order, and its flag
+# (KUS_FLAG_UTF16, KUS_FLAG_UTF32).
+ORDER = "le" if sys.byteorder == "little" else "be"
+ENCODINGS = {"bytes": ("utf-8", 0), "utf16": (f"utf-16-{ORDER}", 0x10000), "characters": (f"utf-32-{ORDER}", 0x20000)}
 # What a tag is made of: printed ASCII characters (OpenType).
 TAG = re.compile(r"[\x20-\x7e]{1,4}")
 # A feature as text: -liga, +kern, kern=1, ccmp[0:3]=0, aalt[2]=3.
@@ -262,8 +267,8 @@ class Feature(NamedTuple):
 
 
 class Glyph(NamedTuple):
-    """A glyph with its position in font units; `cluster` is the index of a byte of the text in UTF-8, and `character`
-    that of the same character in the text as a str."""
+    """A glyph with its position in font units; `cluster` is the index of a byte of the text in UTF-8 (or of what `clusters`
+    names), and `character` that of the same character in the text as a str."""
 
     number: int
     cluster: int
@@ -382,6 +387,20 @@ def utf8(text: Text, what: str) -> bytes:
     raise TypeError(f"{what}: {type(text).__name__} is no str, bytes, bytearray or memoryview")
 
 
+def encoded(text: Text, what: str, clusters: str) -> bytes:
+    """The bytes of a text whose clusters are its bytes in UTF-8, its units in UTF-16 or its characters."""
+    if clusters not in ENCODINGS:
+        raise ValueError(f"clusters: {clusters!r} is none of bytes, utf16, characters")
+    if clusters == "bytes":
+        return utf8(text, what)
+    if not isinstance(text, str):
+        raise TypeError(f"{what}: {type(text).__name__} is no str, whose clusters are {clusters}")
+    try:
+        return str.encode(text, ENCODINGS[clusters][0])
+    except UnicodeEncodeError as error:
+        raise ValueError(f"{what}: the surrogate at {error.start} is no character") from None
+
+
 def own_bytes(given: Bytes) -> bytes:
     """By the buffer, whose length no class can tell otherwise."""
     return given if type(given) is bytes else memoryview(given).tobytes()
@@ -407,11 +426,15 @@ def flags_number(flags: int) -> int:
     return number(flags, "flags")
 
 
-def character_indices(text: bytes) -> Optional["array[int]"]:
-    """For each byte of a text the index of the character that it is a part of; none where all characters are bytes."""
-    if text.isascii():
+def character_indices(text: bytes, clusters: str = "bytes") -> Optional["array[int]"]:
+    """For each byte (or unit of UTF-16) of a text the index of the character that it is a part of; none where each is a
+    character."""
+    if clusters == "characters" or (clusters == "bytes" and text.isascii()):
         return None
-    return array("I", accumulate((byte & 0xC0 != 0x80 for byte in text[1:]), initial=0))
+    if clusters == "bytes":
+        return array("I", accumulate((byte & 0xC0 != 0x80 for byte in text[1:]), initial=0))
+    units = memoryview(text).cast("H")
+    return array("I", accumulate((unit & 0xFC00 != 0xDC00 for unit in units[1:]), initial=0)) if len(units) else None
 
 
 # ---- tables and fonts
@@ -518,10 +541,18 @@ class Font(Held):
             self._read_json(first, utf8(json, "font"))
 
     @classmethod
-    def open(cls, path: Union[str, "os.PathLike[str]"], index: int = 0, **settings: Any) -> "Font":
+    def open(
+        cls,
+        path: Union[str, "os.PathLike[str]"],
+        index: int = 0,
+        *,
+        tables: Optional[Tables] = None,
+        extents: bool = True,
+        names: bool = True,
+    ) -> "Font":
         """The font with an index of a font file."""
         with open(path, "rb") as file:
-            return cls(file.read(), index=index, **settings)
+            return cls(file.read(), index=index, tables=tables, extents=extents, names=names)
 
     def _read_file(
         self, read: bytes, *, index: int = 0, tables: Optional[Tables] = None, extents: bool = True, names: bool = True
@@ -547,26 +578,79 @@ class Font(Held):
 
     # -- texts
 
-    def shape(self, text: Text, **settings: Any) -> list[Glyph]:
+    def shape(
+        self,
+        text: Text,
+        *,
+        features: Features = (),
+        direction: str = "",
+        script: str = "",
+        language: str = "",
+        before: Text = "",
+        after: Text = "",
+        flags: int = 0,
+        cluster_level: int = 0,
+        clusters: str = "bytes",
+    ) -> list[Glyph]:
         """The glyphs of a text, in the order in which they are drawn. What is not set is guessed.
 
-        features: "liga=0,kern", {"liga": 0} or features; direction: "ltr", "rtl", "ttb" or "btt"; script: a tag of ISO
-        15924; language: a tag of BCP 47; before, after: the text around it; flags: Flags; cluster_level:
-        ClusterLevel."""
-        return list(map(Glyph, *self.shape_arrays(text, **settings)))
+        features: "liga=0,kern", {"liga": 0} or features, whose ranges are of clusters; direction: "ltr", "rtl", "ttb" or
+        "btt"; script: a tag of ISO 15924; language: a tag of BCP 47; before, after: the text around it; flags: Flags;
+        cluster_level: ClusterLevel; clusters: what a cluster is the index of, "bytes" (of UTF-8), "utf16" (units of
+        UTF-16) or "characters" (of a str)."""
+        arrays = self.shape_arrays(
+            text,
+            features=features,
+            direction=direction,
+            script=script,
+            language=language,
+            before=before,
+            after=after,
+            flags=flags,
+            cluster_level=cluster_level,
+            clusters=clusters,
+        )
+        return list(map(Glyph, *arrays))
 
-    def shape_arrays(self, text: Text, **settings: Any) -> Arrays:
+    def shape_arrays(
+        self,
+        text: Text,
+        *,
+        features: Features = (),
+        direction: str = "",
+        script: str = "",
+        language: str = "",
+        before: Text = "",
+        after: Text = "",
+        flags: int = 0,
+        cluster_level: int = 0,
+        clusters: str = "bytes",
+    ) -> Arrays:
         """The glyphs of a text as `shape` gives them, as arrays."""
-        raw, own = raw_text(text, **settings)
+        raw, own = raw_text(
+            text, features, direction, script, language, before, after, flags, cluster_level, clusters
+        )
         with self._lock:
-            return self._shaped(raw, own)
+            return self._shaped(raw, own, clusters)
 
-    def shape_slices(self, text: Text, **settings: Any) -> list[Slice]:
+    def shape_slices(
+        self,
+        text: Text,
+        *,
+        features: Features = (),
+        direction: str = "",
+        script: str = "",
+        language: str = "",
+        before: Text = "",
+        after: Text = "",
+        flags: int = 0,
+        cluster_level: int = 0,
+    ) -> list[Slice]:
         """The glyphs of a text as `shape` gives them, by runs of one cluster with its part of the text; Fault where
         they can't be traced to the text."""
-        raw, own = raw_text(text, **settings)
+        raw, own = raw_text(text, features, direction, script, language, before, after, flags, cluster_level)
         with self._lock:
-            arrays = self._shaped(raw, own)
+            arrays = self._shaped(raw, own, "bytes")
             runs = self._runs(own, len(arrays.numbers))
         glyphs = list(map(Glyph, *arrays))
         indices = character_indices(own) or range(len(own))
@@ -588,7 +672,7 @@ class Font(Held):
         with self._lock:
             return tag_text(LIBRARY.kus_get_script(self._handle))
 
-    def _shaped(self, raw: RawText, own: bytes) -> Arrays:
+    def _shaped(self, raw: RawText, own: bytes, clusters: str) -> Arrays:
         need_stack(SHAPING)
         room = max(64, len(own))
         infos, positions, count = (RawInfo * room)(), (RawPosition * room)(), ctypes.c_size_t()
@@ -597,7 +681,7 @@ class Font(Held):
             room = count.value
             infos, positions = (RawInfo * room)(), (RawPosition * room)()
             LIBRARY.kus_get_glyphs(self._handle, infos, room, positions, room)
-        return arrays_of(infos, positions, count.value, character_indices(own))
+        return arrays_of(infos, positions, count.value, character_indices(own, clusters))
 
     def _runs(self, own: bytes, most: int) -> list[RawSlice]:
         slices, count = (RawSlice * max(most, 1))(), ctypes.c_size_t()
@@ -660,7 +744,6 @@ class Font(Held):
 
 def raw_text(
     text: Text,
-    *,
     features: Features = (),
     direction: str = "",
     script: str = "",
@@ -669,16 +752,21 @@ def raw_text(
     after: Text = "",
     flags: int = 0,
     cluster_level: int = 0,
+    clusters: str = "bytes",
 ) -> tuple[RawText, bytes]:
     """A text with its settings as the library takes it, and its bytes."""
+    own = encoded(text, "text", clusters)
     raw = RawText(
         direction=direction_number(direction),
         script=tag(script, "script"),
-        flags=flags_number(flags),
+        flags=flags_number(flags) | ENCODINGS[clusters][1],
         cluster_level=number(cluster_level, "cluster_level", most=3),
     )
-    own = utf8(text, "text")
-    around = {"before": utf8(before, "before"), "after": utf8(after, "after"), "language": utf8(language, "language")}
+    around = {
+        "before": encoded(before, "before", clusters),
+        "after": encoded(after, "after", clusters),
+        "language": utf8(language, "language"),
+    }
     for name, value in {"text": own, **around}.items():
         setattr(raw, name, value)
         setattr(raw, f"{name}_length", len(value))

@@ -161,6 +161,22 @@ class Answered(unittest.TestCase):
         self.assertEqual(self.font.shape(""), [])
         self.assertEqual(len(self.font.shape("ab" * 5000)), 10000)
 
+    def test_clusters(self) -> None:
+        """Clusters and the ranges of features count bytes of UTF-8, units of UTF-16 or characters."""
+        font, text = self.binding.Font(TABLES, FONT), "b\U0001f600fi"
+        for clusters, wanted in (("bytes", [0, 1, 5]), ("utf16", [0, 1, 3]), ("characters", [0, 1, 2])):
+            glyphs = font.shape(text, clusters=clusters)
+            self.assertEqual([glyph.number for glyph in glyphs], [2, 0, 7])
+            self.assertEqual([glyph.cluster for glyph in glyphs], wanted)
+            self.assertEqual([glyph.character for glyph in glyphs], [0, 1, 2])
+            last = wanted[-1]
+            off = font.shape(text, clusters=clusters, features=f"liga[{last}:{last + 1}]=0", before="a", after="b")
+            self.assertEqual([glyph.number for glyph in off], [2, 0, 3, 4])
+        self.assertEqual(font.shape("", clusters="utf16"), [])
+        for given, clusters, fault in ((b"a", "utf16", TypeError), ("a", "words", ValueError), ("\ud800", "utf16", ValueError)):
+            with self.assertRaises(fault):
+                font.shape(given, clusters=clusters)
+
     def test_slices(self) -> None:
         slices = self.font.shape_slices("éfib")
         rows = [(len(one.glyphs), one.start, one.end, one.first_character, one.end_character) for one in slices]

@@ -2,7 +2,7 @@
 
 use crate::fault::Fault;
 use crate::raw::*;
-use crate::settings::{Direction, Tag, Text};
+use crate::settings::{Direction, Tag, Text, Units};
 use crate::tables::Tables;
 use std::ptr;
 
@@ -103,7 +103,7 @@ impl Font {
     }
 
     /// Shapes a text. On a fault there are no glyphs.
-    pub fn shape(&mut self, text: &Text<'_>) -> Result<Glyphs<'_>, Fault> {
+    pub fn shape<T: Units + ?Sized>(&mut self, text: &Text<'_, T>) -> Result<Glyphs<'_>, Fault> {
         self.count = 0;
         let mut count = 0;
         let room = self.infos.len();
@@ -148,7 +148,7 @@ impl Font {
         }
     }
 
-    /// The slices of the last text, which is passed again: each run of glyphs of one cluster, in the order of the
+    /// The slices of the last text, one of a `str`, which is passed again: each run of glyphs of one cluster, in the order of the
     /// glyphs, with its bytes. The text without characters has none.
     pub fn slices(&mut self, text: &str) -> Result<Vec<Slice>, Fault> {
         if text.is_empty() && self.count == 0 {

@@ -19,7 +19,7 @@ mod tables;
 pub use fault::Fault;
 pub use font::{Font, Glyphs, Table, count_fonts};
 pub use raw::{GlyphExtents, GlyphInfo, GlyphPosition, Slice};
-pub use settings::{ClusterLevel, Direction, Feature, Flags, NoFeature, NoTag, Tag, Text};
+pub use settings::{Character, ClusterLevel, Direction, Feature, Flags, NoFeature, NoTag, Tag, Text, Units};
 pub use tables::Tables;
 
 /// The version of the library that is linked: its three numbers.

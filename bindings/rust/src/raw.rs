@@ -18,7 +18,8 @@ impl Handle {
     };
 }
 
-/// A glyph: `codepoint` is its number, `mask` has its glyph flags, `cluster` is the index of a byte of the text.
+/// A glyph: `codepoint` is its number, `mask` has its glyph flags, `cluster` is that of its text's units (of a `str` the
+/// index of a byte).
 #[repr(C)]
 #[derive(Clone, Copy, PartialEq, Eq, Debug, Default)]
 pub struct GlyphInfo {

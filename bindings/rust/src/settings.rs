@@ -2,6 +2,7 @@
 
 use crate::raw::RawText;
 use std::fmt;
+use std::mem::size_of_val;
 use std::ops::BitOr;
 use std::str::FromStr;
 
@@ -201,15 +202,67 @@ impl BitOr for Flags {
     }
 }
 
-/// A text, and how it is to be shaped. A script that is not given is guessed.
-#[derive(Clone, Copy, Debug, Default)]
-pub struct Text<'a> {
-    pub text: &'a str,
+/// A character, and the number of its cluster.
+#[repr(C)]
+#[derive(Clone, Copy, PartialEq, Eq, Debug, Default)]
+pub struct Character {
+    pub character: u32,
+    pub cluster: u32,
+}
+
+/// What a text is made of: `str`, `[u16]` (UTF-16), `[u32]` (UTF-32) or `[Character]`. What is no character in the last
+/// three is U+FFFD.
+pub trait Units: sealed::Units + fmt::Debug {
+    /// What the texts before and after it are made of.
+    type Around: Units + ?Sized;
+}
+
+mod sealed {
+    pub trait Units: 'static {
+        /// The flag by which the library knows them.
+        const FLAG: u32;
+
+        const EMPTY: &'static Self;
+
+        /// Where they are, and how many bytes they have.
+        fn bytes(&self) -> (*const u8, usize);
+    }
+}
+
+macro_rules! units {
+    ($units:ty, $around:ty, $flag:expr, $empty:expr) => {
+        impl sealed::Units for $units {
+            const FLAG: u32 = $flag;
+
+            const EMPTY: &'static $units = $empty;
+
+            fn bytes(&self) -> (*const u8, usize) {
+                (self.as_ptr().cast(), size_of_val(self))
+            }
+        }
+
+        impl Units for $units {
+            type Around = $around;
+        }
+    };
+}
+
+units!(str, str, 0, "");
+units!([u16], [u16], 0x1_0000, &[]);
+units!([u32], [u32], 0x2_0000, &[]);
+units!([Character], [u32], 0x4_0000, &[]);
+
+/// A text, and how it is to be shaped. A script that is not given is guessed. A cluster is the index of a unit: of a byte
+/// of a `str`; a `Character` has its own.
+#[derive(Debug)]
+pub struct Text<'a, T: Units + ?Sized = str> {
+    pub text: &'a T,
     /// The text before it and the text after it, of which five characters count.
-    pub before: &'a str,
-    pub after: &'a str,
+    pub before: &'a T::Around,
+    pub after: &'a T::Around,
     /// BCP 47; none where it is empty.
     pub language: &'a str,
+    /// Their ranges are of clusters.
     pub features: &'a [Feature],
     pub direction: Direction,
     pub script: Option<Tag>,
@@ -217,30 +270,81 @@ pub struct Text<'a> {
     pub cluster_level: ClusterLevel,
 }
 
+impl<T: Units + ?Sized> Clone for Text<'_, T> {
+    fn clone(&self) -> Self {
+        *self
+    }
+}
+
+impl<T: Units + ?Sized> Copy for Text<'_, T> {}
+
 impl<'a> Text<'a> {
-    /// A text all of whose settings are guessed.
+    /// A text in UTF-8 all of whose settings are guessed.
     pub fn new(text: &'a str) -> Text<'a> {
+        Text::of(text)
+    }
+}
+
+impl<'a> Text<'a, [u16]> {
+    /// A text in UTF-16 all of whose settings are guessed.
+    pub fn utf16(text: &'a [u16]) -> Text<'a, [u16]> {
+        Text::of(text)
+    }
+}
+
+impl<'a> Text<'a, [u32]> {
+    /// A text in UTF-32 all of whose settings are guessed.
+    pub fn utf32(text: &'a [u32]) -> Text<'a, [u32]> {
+        Text::of(text)
+    }
+}
+
+impl<'a> Text<'a, [Character]> {
+    /// Characters with clusters of the caller's own, which should rise, or fall; all settings are guessed.
+    pub fn characters(text: &'a [Character]) -> Text<'a, [Character]> {
+        Text::of(text)
+    }
+}
+
+impl Default for Text<'_> {
+    fn default() -> Self {
+        Text::new("")
+    }
+}
+
+impl<'a, T: Units + ?Sized> Text<'a, T> {
+    fn of(text: &'a T) -> Text<'a, T> {
         Text {
             text,
-            ..Text::default()
+            before: <T::Around as sealed::Units>::EMPTY,
+            after: <T::Around as sealed::Units>::EMPTY,
+            language: "",
+            features: &[],
+            direction: Direction::default(),
+            script: None,
+            flags: Flags::default(),
+            cluster_level: ClusterLevel::default(),
         }
     }
 
     pub(crate) fn raw(&self) -> RawText {
+        let (text, text_length) = sealed::Units::bytes(self.text);
+        let (before, before_length) = sealed::Units::bytes(self.before);
+        let (after, after_length) = sealed::Units::bytes(self.after);
         RawText {
-            text: self.text.as_ptr(),
-            text_length: self.text.len(),
-            before: self.before.as_ptr(),
-            before_length: self.before.len(),
-            after: self.after.as_ptr(),
-            after_length: self.after.len(),
+            text,
+            text_length,
+            before,
+            before_length,
+            after,
+            after_length,
             language: self.language.as_ptr(),
             language_length: self.language.len(),
             features: self.features.as_ptr(),
             num_features: self.features.len(),
             direction: self.direction as u32,
             script: self.script.map_or(0, Tag::number),
-            flags: self.flags.0,
+            flags: self.flags.0 | T::FLAG,
             cluster_level: self.cluster_level as u32,
         }
     }

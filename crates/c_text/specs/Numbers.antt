@@ -1,12 +1,15 @@
 -- C's numbers of settings and of faults.
 use Rattle.std.specs.Prelude.{ℕ, ◌==◌, if◌then◌else◌, Option, Some, None, Result, Ok, Err, bit_and}
+use Rattle.buffer_common.specs.declared.constants.BufferFlags.{BufferFlags}
 use Rattle.buffer_common.specs.declared.direction.Direction.{Direction}
 use Rattle.buffer_common.specs.declared.direction.Direction.TheVariants.{Invalid, LeftToRight, RightToLeft, TopToBottom, BottomToTop}
 use Rattle.buffer_common.specs.declared.script.Script.{Script}
 use Rattle.buffer_common.specs.Script.{script_of_tag}
 use Rattle.buffer_glyphs.specs.declared.level.BufferClusterLevel.{BufferClusterLevel}
-use Rattle.buffer_glyphs.specs.declared.level.BufferClusterLevel.TheVariants.{MonotoneGraphemes, MonotoneCharacters, Characters, Graphemes}
+use Rattle.buffer_glyphs.specs.declared.level.BufferClusterLevel.TheVariants as level
 use Rattle.buffer_glyphs.specs.declared.cause.ShapeCause.TheVariants as cause
+use Rattle.c_characters.specs.declared.characters.Encoding.{Encoding}
+use Rattle.c_characters.specs.declared.characters.Encoding.TheVariants.{Utf16, Utf32, Characters}
 use Rattle.font_bytes.specs.declared.font_fault.FontFault.{FontFault}
 use Rattle.font_file.specs.declared.parts.FontParts.{FontParts}
 use Rattle.font_bytes.specs.declared.fault.TableFault.{TableFault}
@@ -39,7 +42,18 @@ script_number (Some s) = s.0.0
 
 -- the cluster level of a number (`hb_buffer_cluster_level_t`); a number above 3 is the default's
 abbrev pub level_numbered : ℕ → BufferClusterLevel
-level_numbered n = if n == 1 then MonotoneCharacters else if n == 2 then Characters else if n == 3 then Graphemes else MonotoneGraphemes
+level_numbered n = if n == 1 then level.MonotoneCharacters else if n == 2 then level.Characters else if n == 3 then level.Graphemes else level.MonotoneGraphemes
+
+-- the encoding that the bits 16 to 18 of a text's flags name, the least of those that are set; none of them: UTF-8
+abbrev pub encoding_numbered : ℕ → Option Encoding
+encoding_numbered flags =
+    if bit_and flags 0x1_0000 == 0
+    then (if bit_and flags 0x2_0000 == 0 then (if bit_and flags 0x4_0000 == 0 then None else Some Characters) else Some Utf32)
+    else Some Utf16
+
+-- the requests among a text's flags (`hb_buffer_flags_t`): all bits but those that name an encoding
+abbrev pub requests_numbered : ℕ → BufferFlags
+requests_numbered flags = record { 0 = bit_and flags 0xFFF8_FFFF }
 
 -- the number of a font file's cause: 20 to 25, 1 for lack of memory
 abbrev pub font_fault_number : TableFault → ℕ

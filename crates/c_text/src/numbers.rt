@@ -1,12 +1,14 @@
 //! C's numbers of settings, of faults and of what else a call answers.
 ghost use Rattle.std.specs.Prelude.{◌≡◌, ◌≢◌, ◌<◌};
-ghost use Rattle.c_text.specs.Numbers.{direction_number, direction_numbered, fault_number, font_fault_number, level_numbered, parts_without, script_number, script_numbered};
+ghost use Rattle.c_text.specs.Numbers.{direction_number, direction_numbered, encoding_numbered, fault_number, font_fault_number, level_numbered, parts_without, requests_numbered, script_number, script_numbered};
 
+use buffer_common::constants::BufferFlags;
 use buffer_common::direction::Direction;
 use buffer_common::script::Script;
 use buffer_common::tag::Tag;
 use buffer_glyphs::cause::ShapeCause;
 use buffer_glyphs::level::BufferClusterLevel;
+use c_characters::characters::Encoding;
 use font_bytes::fault::TableFault;
 use font_bytes::font_fault::FontFault;
 use font_file::FontParts;
@@ -31,6 +33,13 @@ pub const NO_SLICES: u32 = 18;
 
 /// The status where a font was passed as tables, or tables as a font.
 pub const OTHER_FORMAT: u32 = 19;
+
+/// The bits of a text's flags that name an encoding. HarfBuzz's buffer flags have none of them.
+pub const UTF16: u32 = 0x1_0000;
+
+pub const UTF32: u32 = 0x2_0000;
+
+pub const CHARACTERS: u32 = 0x4_0000;
 
 /// The direction of a number, `Invalid` for one that no direction has.
 pub fn direction_numbered(number: u32) -> Direction
@@ -85,6 +94,30 @@ pub fn level_numbered(number: u32) -> BufferClusterLevel
         3 => BufferClusterLevel::Graphemes,
         _ => BufferClusterLevel::MonotoneGraphemes,
     }
+}
+
+/// How the characters of a text with flags are passed, by the least of the bits 16 to 18 that is set: in UTF-16, in UTF-32,
+/// or each with its cluster; none: in UTF-8.
+pub fn encoding_numbered(flags: u32) -> Option<Encoding>
+    ensures { result ≡ encoding_numbered flags }
+{
+    if flags & UTF16 != 0 {
+        return Some(Encoding::Utf16);
+    }
+    if flags & UTF32 != 0 {
+        return Some(Encoding::Utf32);
+    }
+    if flags & CHARACTERS != 0 {
+        return Some(Encoding::Characters);
+    }
+    None
+}
+
+/// The requests among a text's flags.
+pub fn requests_numbered(flags: u32) -> BufferFlags
+    ensures { result ≡ requests_numbered flags }
+{
+    BufferFlags(flags & 0xFFF8_FFFF)
 }
 
 /// The number of a fault.

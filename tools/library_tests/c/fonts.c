@@ -109,6 +109,59 @@ try_collection (bytes_t file, bytes_t collection, size_t fonts, size_t count)
   kus_font_destroy (&font);
 }
 
+/* The text as characters, each in the cluster of its byte; how many. */
+static size_t
+characters_of (kus_character_t *characters)
+{
+  size_t count = 0;
+  for (const char *at = word; *at; at++) {
+    uint8_t byte = (uint8_t) *at;
+    if ((byte & 0xC0) != 0x80)
+      characters[count++] = (kus_character_t) { byte < 0x80 ? byte : byte < 0xE0 ? byte & 31u : byte < 0xF0 ? byte & 15u : byte & 7u,
+                                                (uint32_t) (at - word) };
+    else
+      characters[count - 1].character = characters[count - 1].character << 6 | (byte & 63u);
+  }
+  return count;
+}
+
+/* Whether a text has the first one's glyphs and positions, and its clusters are those that `clusters` has in their place. */
+static void
+expect_alike (kus_font_t *font, const kus_text_t *text, size_t count, const uint32_t *clusters, const char *what)
+{
+  size_t found;
+  kus_status_t status = kus_shape (font, text, infos, MOST, positions, MOST, &found);
+  expect (status == KUS_OK && found == count, what);
+  for (size_t k = 0; k < count; k++) {
+    expect (infos[k].codepoint == first_infos[k].codepoint && infos[k].cluster == clusters[first_infos[k].cluster], what);
+    expect (!memcmp (&positions[k], &first_positions[k], sizeof *positions), what);
+  }
+}
+
+/* The text in UTF-16, in UTF-32 and as characters with clusters has the same glyphs. */
+static void
+try_units (bytes_t file, size_t count)
+{
+  kus_character_t characters[MOST];
+  uint16_t utf16[2 * MOST];
+  uint32_t utf32[MOST], of_bytes[MOST], of_utf16[MOST], of_utf32[MOST];
+  size_t length = characters_of (characters), units = 0;
+  for (size_t k = 0; k < length; k++) {
+    uint32_t c = characters[k].character, byte = characters[k].cluster;
+    of_bytes[byte] = byte, of_utf16[byte] = (uint32_t) units, of_utf32[byte] = (uint32_t) k, utf32[k] = c;
+    if (c >= 0x10000) utf16[units++] = (uint16_t) (0xD7C0 + (c >> 10));
+    utf16[units++] = (uint16_t) (c < 0x10000 ? c : 0xDC00 + (c & 0x3FF));
+  }
+  kus_font_t font = read_font (NULL, file, KUS_FONT_DEFAULT);
+  kus_text_t texts[] = { kus_text_utf16 (utf16, units), kus_text_utf32 (utf32, length), kus_text_characters (characters, length) };
+  expect_alike (&font, &texts[0], count, of_utf16, "the text in UTF-16");
+  expect_alike (&font, &texts[1], count, of_utf32, "the text in UTF-32");
+  expect_alike (&font, &texts[2], count, of_bytes, "the text as characters");
+  texts[0].flags |= KUS_FLAG_UTF32 | KUS_FLAG_CHARACTERS;
+  expect_alike (&font, &texts[0], count, of_utf16, "the first of several encodings");
+  kus_font_destroy (&font);
+}
+
 /* A font (JSON) that is passed as tables and tables that are passed as a font are told. */
 static void
 try_formats (void)
@@ -169,6 +222,7 @@ main (int count, char **words)
   size_t glyphs = try_tables (words[1], file);
   try_flags (file, glyphs);
   try_collection (file, collection, strtoul (words[4], NULL, 10), glyphs);
+  try_units (file, glyphs);
   try_formats ();
   try_damage (file, atoi (words[5]));
   free (file.bytes);

@@ -1,4 +1,5 @@
 //! With ample memory a text of C becomes its buffer, and its features become requests; and some tags of scripts.
+use buffer_common::constants::BufferFlags;
 use buffer_common::direction::Direction;
 use buffer_common::script::{ARABIC, DEVANAGARI, Script, UNKNOWN};
 use buffer_common::tag::Tag;
@@ -46,6 +47,47 @@ fn texts_become_buffers(rt: HostRuntime) -> Result<(), Fail> {
     assert_eq!(rt; buffer.len(), 3);
     assert!(rt; buffer.direction() == Direction::RightToLeft);
     assert!(rt; buffer.language().is_some());
+    Ok(())
+}
+
+/// Whether a text that is passed by flags has characters, each with its cluster, between two others.
+fn has_characters(
+    alloc: Global,
+    flags: u32,
+    bytes: &[u8],
+    around: &[u8],
+    want: &[(u32, u32)],
+) -> Result<bool, RunFault> {
+    let mut text = text_of(bytes, &[]);
+    text.before = around;
+    text.after = around;
+    text.flags = flags;
+    let mut buffer = hb_buffer_t::new(alloc);
+    put_text(alloc, &text, &mut buffer)?;
+    let glyphs = buffer.info_slice();
+    let mut are_same = glyphs.len() == want.len();
+    for (glyph, (character, cluster)) in glyphs.iter().zip(want.iter()) {
+        are_same = are_same && glyph.glyph_id == *character && glyph.cluster == *cluster;
+    }
+    let is_between = buffer.pre_context() == ['f', 'e', 'd', 'c', 'b'].as_slice()
+        && buffer.post_context() == ['a', 'b', 'c', 'd', 'e'].as_slice();
+    Ok(are_same && is_between && buffer.flags() == BufferFlags(flags & 3))
+}
+
+/// By Unicode, 3.9 D91: U+1F600 is D83D DE00, and a surrogate without a partner is U+FFFD.
+#[test]
+fn texts_are_in_utf16_or_utf32(rt: HostRuntime) -> Result<(), Fail> {
+    let utf16 = b"a\0\x3D\xD8\0\xDEb\0\0\xDC\x3D\xD8c";
+    let around = b"a\0b\0c\0d\0e\0f\0";
+    let want = [(97, 0), (0x1F600, 1), (98, 3), (0xFFFD, 4), (0xFFFD, 5)];
+    assert!(rt; has_characters(rt.alloc(), 0x70001, utf16, around, &want)?);
+    let utf32 = b"a\0\0\0\0\xF6\x01\0\0\xD8\0\0\0\0\x11\0b\0\0";
+    let around = b"a\0\0\0b\0\0\0c\0\0\0d\0\0\0e\0\0\0f\0\0\0";
+    let want = [(97, 0), (0x1F600, 1), (0xFFFD, 2), (0xFFFD, 3)];
+    assert!(rt; has_characters(rt.alloc(), 0x20002, utf32, around, &want)?);
+    let pairs = b"a\0\0\0\x07\0\0\0\0\xD8\0\0\xFF\xFF\xFF\xFFb\0\0\0";
+    let want = [(97, 7), (0xFFFD, 0xFFFFFFFF)];
+    assert!(rt; has_characters(rt.alloc(), 0x40000, pairs, around, &want)?);
     Ok(())
 }
 
