@@ -302,6 +302,72 @@ bool kus_font_get_glyph_extents (kus_font_t *font, uint32_t glyph, kus_glyph_ext
 size_t kus_font_get_feature_tags (kus_font_t *font, uint32_t table, uint32_t *tags, size_t tags_room);
 size_t kus_font_get_script_tags (kus_font_t *font, uint32_t table, uint32_t *tags, size_t tags_room);
 
+/* Whether a text writes a request for a feature, which is then in *feature: kern, -liga, aalt=2, "kern"[3:5]=1 and the like
+ * (hb_feature_from_string). The numbers in brackets are clusters. */
+bool kus_feature_from_string (const char *text, size_t length, kus_feature_t *feature);
+
+/* The script that a tag of ISO 15924 names, in any case, as its tag; Arab for Aran, Zzzz for what is no such tag, 0 for 0
+ * (hb_script_from_iso15924_tag). */
+uint32_t kus_script_from_iso15924_tag (uint32_t tag);
+
+/* The tag of the first four bytes of a text, filled with spaces; 0 for no bytes (hb_tag_from_string). */
+static inline uint32_t
+kus_tag_from_string (const char *text, size_t length)
+{
+  uint32_t tag = 0;
+  size_t at, count = 0;
+  if (!text)
+    return 0;
+  while (count < length && count < 4 && text[count])
+    count++;
+  for (at = 0; count && at < 4; at++)
+    tag = tag << 8 | (at < count ? (uint8_t) text[at] : (uint8_t) ' ');
+  return tag;
+}
+
+/* Writes the four bytes of a tag, with no byte 0 after them (hb_tag_to_string). */
+static inline void
+kus_tag_to_string (uint32_t tag, char text[4])
+{
+  int at;
+  for (at = 0; at < 4; at++)
+    text[at] = (char) (uint8_t) (tag >> (24 - 8 * at));
+}
+
+/* The script that a text names by a tag of ISO 15924, 0 for no bytes (hb_script_from_string). */
+static inline uint32_t
+kus_script_from_string (const char *text, size_t length)
+{
+  return kus_script_from_iso15924_tag (kus_tag_from_string (text, length));
+}
+
+/* The direction that the first letter of a text names, in any case: ltr, rtl, ttb, btt; KUS_DIRECTION_GUESS for any other
+ * text (hb_direction_from_string). */
+static inline uint32_t
+kus_direction_from_string (const char *text, size_t length)
+{
+  switch (text && length ? text[0] : 0) {
+  case 'l': case 'L': return KUS_DIRECTION_LTR;
+  case 'r': case 'R': return KUS_DIRECTION_RTL;
+  case 't': case 'T': return KUS_DIRECTION_TTB;
+  case 'b': case 'B': return KUS_DIRECTION_BTT;
+  default: return KUS_DIRECTION_GUESS;
+  }
+}
+
+/* The name of a direction: "ltr", "rtl", "ttb" or "btt", else "invalid" (hb_direction_to_string). */
+static inline const char *
+kus_direction_to_string (uint32_t direction)
+{
+  switch (direction) {
+  case KUS_DIRECTION_LTR: return "ltr";
+  case KUS_DIRECTION_RTL: return "rtl";
+  case KUS_DIRECTION_TTB: return "ttb";
+  case KUS_DIRECTION_BTT: return "btt";
+  default: return "invalid";
+  }
+}
+
 /* A text in UTF-8 with all settings to be guessed; `utf8` may be NULL where `length` is 0. */
 static inline kus_text_t
 kus_text (const char *utf8, size_t length)

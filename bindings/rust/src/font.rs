@@ -4,6 +4,7 @@ use crate::fault::Fault;
 use crate::raw::*;
 use crate::settings::{Direction, Tag, Text, Units};
 use crate::tables::Tables;
+use std::fmt;
 use std::ptr;
 
 /// The glyphs of a text, each with its position, in the order in which they are drawn.
@@ -236,6 +237,12 @@ impl Font {
         let mut tags = vec![0; room];
         unsafe { call(&mut self.handle, table, tags.as_mut_ptr(), room) };
         tags.into_iter().map(Tag::from_number).collect()
+    }
+}
+
+impl fmt::Debug for Font {
+    fn fmt(&self, f: &mut fmt::Formatter<'_>) -> fmt::Result {
+        write!(f, "Font {{ glyphs of the last text: {} }}", self.count)
     }
 }
 

@@ -8,7 +8,7 @@ use std::str::FromStr;
 
 /// A tag of a feature or a script: one to four printed ASCII characters.
 #[repr(transparent)]
-#[derive(Clone, Copy, PartialEq, Eq, PartialOrd, Ord, Hash, Debug)]
+#[derive(Clone, Copy, PartialEq, Eq, PartialOrd, Ord, Hash)]
 pub struct Tag(u32);
 
 /// What was given is no tag of one to four printed ASCII characters.
@@ -55,6 +55,12 @@ impl fmt::Display for Tag {
     fn fmt(&self, f: &mut fmt::Formatter<'_>) -> fmt::Result {
         let text: String = self.0.to_be_bytes().iter().map(|byte| char::from(*byte)).collect();
         f.write_str(text.trim_end_matches(' '))
+    }
+}
+
+impl fmt::Debug for Tag {
+    fn fmt(&self, f: &mut fmt::Formatter<'_>) -> fmt::Result {
+        write!(f, "Tag({:?})", self.to_string())
     }
 }
 
@@ -174,7 +180,7 @@ pub enum ClusterLevel {
 }
 
 /// The requests for a text, joined by `|`.
-#[derive(Clone, Copy, PartialEq, Eq, Debug, Default)]
+#[derive(Clone, Copy, PartialEq, Eq, Default)]
 pub struct Flags(u32);
 
 impl Flags {
@@ -191,6 +197,23 @@ impl Flags {
     /// The flags of a number, `hb_buffer_flags_t`; none where it has a bit that no flag has.
     pub const fn from_number(number: u32) -> Option<Flags> {
         if number & !0x1DF == 0 { Some(Flags(number)) } else { None }
+    }
+}
+
+impl fmt::Debug for Flags {
+    fn fmt(&self, f: &mut fmt::Formatter<'_>) -> fmt::Result {
+        let names = [
+            (Flags::BOT, "BOT"),
+            (Flags::EOT, "EOT"),
+            (Flags::PRESERVE_DEFAULT_IGNORABLES, "PRESERVE_DEFAULT_IGNORABLES"),
+            (Flags::REMOVE_DEFAULT_IGNORABLES, "REMOVE_DEFAULT_IGNORABLES"),
+            (Flags::DO_NOT_INSERT_DOTTED_CIRCLE, "DO_NOT_INSERT_DOTTED_CIRCLE"),
+            (Flags::PRODUCE_UNSAFE_TO_CONCAT, "PRODUCE_UNSAFE_TO_CONCAT"),
+            (Flags::PRODUCE_SAFE_TO_INSERT_TATWEEL, "PRODUCE_SAFE_TO_INSERT_TATWEEL"),
+            (Flags::PRODUCE_SAFE_BREAKS, "PRODUCE_SAFE_BREAKS"),
+        ];
+        let set: Vec<&str> = names.iter().filter(|(flag, _)| self.0 & flag.0 != 0).map(|(_, name)| *name).collect();
+        write!(f, "Flags({})", if set.is_empty() { "DEFAULT".to_owned() } else { set.join(" | ") })
     }
 }
 

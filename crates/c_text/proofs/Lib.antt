@@ -7,3 +7,4 @@ mod Plans
 mod Slices
 mod Putting
 pub mod Writing
+mod FeatureTexts

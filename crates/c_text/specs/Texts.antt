@@ -4,6 +4,7 @@ use Rattle.std.specs.Str.{chars, is_utf8, str_to_ascii_lowercase}
 use Rattle.buffer_common.specs.declared.language.Language.{Language}
 use Rattle.buffer_common.specs.Language.{language_text}
 use Rattle.buffer_tags.specs.declared.feature.Feature.{Feature}
+use Rattle.buffer_tags.specs.FeatureGrammar.{IsRequest}
 use Rattle.buffer_core.specs.Segment.{with_segment}
 use Rattle.buffer_core.specs.Settings.{with_language, with_post_context, with_pre_context}
 use Rattle.buffer_core.specs.Sides.{Sides, empty_buffer, with_added, with_flags, with_level}
@@ -26,6 +27,10 @@ feature_of f = record { tag = record { 0 = f.tag }; value = f.value; start = f.s
 -- the requests for features of a text
 abbrev pub features_of : kus_text_t → List Feature
 features_of t = map feature_of t.features.now
+
+-- a text of UTF-8 writes no request for a feature
+abbrev pub IsNoRequest : List ℕ → Type 0
+IsNoRequest text = is_utf8 text ≡ true → (feature : Feature) → ¬ IsRequest text feature
 
 -- a language is that of a tag's bytes (BCP 47), in small letters; no bytes set none
 abbrev pub IsLanguage : List ℕ → Option Language → Type 0

@@ -10,6 +10,7 @@ pub mod numbers;
 mod plan;
 pub mod pointer;
 pub mod queries;
+pub mod requests;
 pub mod segment;
 pub mod texts;
 pub mod types;

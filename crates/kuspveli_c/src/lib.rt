@@ -2,6 +2,7 @@
 #![tactic(auto)]
 
 pub mod calls;
+pub mod names;
 pub mod queries;
 #[cfg(test)]
 mod tests;

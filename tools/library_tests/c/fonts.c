@@ -162,6 +162,27 @@ try_units (bytes_t file, size_t count)
   kus_font_destroy (&font);
 }
 
+/* What texts name: features, tags, scripts and directions, as HarfBuzz reads them. */
+static void
+try_names (void)
+{
+  kus_feature_t feature = { 1, 2, 3, 4 };
+  char text[4];
+  expect (kus_feature_from_string ("aalt[3:5]=2", 11, &feature) && feature.tag == KUS_TAG ('a', 'a', 'l', 't'), "a feature");
+  expect (feature.value == 2 && feature.start == 3 && feature.end == 5, "a feature's value and range");
+  expect (!kus_feature_from_string ("ligature", 8, &feature) && feature.value == 2, "no feature");
+  expect (kus_feature_from_string ("-liga", 5, &feature) && !feature.value, "a feature that is off");
+  expect (feature.start == KUS_FEATURE_GLOBAL_START && feature.end == KUS_FEATURE_GLOBAL_END, "the whole text");
+  expect (kus_tag_from_string ("abc", 3) == KUS_TAG ('a', 'b', 'c', ' ') && !kus_tag_from_string ("", 0), "tags");
+  kus_tag_to_string (KUS_TAG ('a', 'b', 'c', ' '), text);
+  expect (!memcmp (text, "abc ", 4), "a tag's text");
+  expect (kus_script_from_string ("aran", 4) == KUS_TAG ('A', 'r', 'a', 'b'), "a script");
+  expect (kus_script_from_string ("1234", 4) == KUS_TAG ('Z', 'z', 'z', 'z') && !kus_script_from_string ("", 0), "no script");
+  for (uint32_t direction = KUS_DIRECTION_LTR; direction <= KUS_DIRECTION_BTT; direction++)
+    expect (kus_direction_from_string (kus_direction_to_string (direction), 3) == direction, "directions");
+  expect (kus_direction_from_string ("x", 1) == KUS_DIRECTION_GUESS, "no direction");
+}
+
 /* A font (JSON) that is passed as tables and tables that are passed as a font are told. */
 static void
 try_formats (void)
@@ -223,6 +244,7 @@ main (int count, char **words)
   try_flags (file, glyphs);
   try_collection (file, collection, strtoul (words[4], NULL, 10), glyphs);
   try_units (file, glyphs);
+  try_names ();
   try_formats ();
   try_damage (file, atoi (words[5]));
   free (file.bytes);

@@ -1,4 +1,5 @@
 //! With ample memory a text of C becomes its buffer, and its features become requests; and some tags of scripts.
+use crate::names::{kus_feature_from_string, kus_script_from_iso15924_tag};
 use buffer_common::constants::BufferFlags;
 use buffer_common::direction::Direction;
 use buffer_common::script::{ARABIC, DEVANAGARI, Script, UNKNOWN};
@@ -88,6 +89,17 @@ fn texts_are_in_utf16_or_utf32(rt: HostRuntime) -> Result<(), Fail> {
     let pairs = b"a\0\0\0\x07\0\0\0\0\xD8\0\0\xFF\xFF\xFF\xFFb\0\0\0";
     let want = [(97, 7), (0xFFFD, 0xFFFFFFFF)];
     assert!(rt; has_characters(rt.alloc(), 0x40000, pairs, around, &want)?);
+    Ok(())
+}
+
+#[test]
+fn texts_write_requests_for_features(rt: HostRuntime) -> Result<(), Fail> {
+    let mut feature = KERN;
+    assert!(rt; !kus_feature_from_string(b"ligature", &mut feature));
+    assert_eq!(rt; feature.value, 2);
+    assert!(rt; kus_feature_from_string(b"aalt[3:5]=4", &mut feature));
+    assert!(rt; (feature.value, feature.start, feature.end) == (4, 3, 5));
+    assert_eq!(rt; kus_script_from_iso15924_tag(0x4172616E), 0x41726162);
     Ok(())
 }
 
