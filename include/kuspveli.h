@@ -296,6 +296,11 @@ size_t kus_font_get_glyph_name (kus_font_t *font, uint32_t glyph, uint8_t *name,
 /* Whether the font gives the box of a glyph's ink, which is then written. */
 bool kus_font_get_glyph_extents (kus_font_t *font, uint32_t glyph, kus_glyph_extents_t *extents);
 
+/* The advance of a glyph in a horizontal line and in a vertical one, where it is at most 0, in font units; 0 where there is
+ * no font or a glyph has no such number. */
+int32_t kus_font_get_glyph_h_advance (kus_font_t *font, uint32_t glyph);
+int32_t kus_font_get_glyph_v_advance (kus_font_t *font, uint32_t glyph);
+
 /* The tags of the features, in the order of their indices (a tag may come more than once), and of the scripts of a
  * layout table, KUS_TAG ('G', 'S', 'U', 'B') or KUS_TAG ('G', 'P', 'O', 'S'), as far as there is room; they return how
  * many there are. */

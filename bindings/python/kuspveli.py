@@ -108,6 +108,8 @@ def load(path: Union[str, "os.PathLike[str]"]) -> ctypes.CDLL:
     declare(found, "kus_font_get_nominal_glyph", ctypes.c_bool, handle, u32, numbers)
     declare(found, "kus_font_get_glyph_name", size, handle, u32, ctypes.c_char_p, size)
     declare(found, "kus_font_get_glyph_extents", ctypes.c_bool, handle, u32, ctypes.POINTER(RawExtents))
+    declare(found, "kus_font_get_glyph_h_advance", ctypes.c_int32, handle, u32)
+    declare(found, "kus_font_get_glyph_v_advance", ctypes.c_int32, handle, u32)
     declare(found, "kus_font_get_feature_tags", size, handle, u32, numbers, size)
     declare(found, "kus_font_get_script_tags", size, handle, u32, numbers, size)
     return found
@@ -723,6 +725,16 @@ class Font(Held):
         with self._lock:
             has = LIBRARY.kus_font_get_glyph_extents(self._handle, number(glyph, "glyph"), box)
         return Extents(box.x_bearing, box.y_bearing, box.width, box.height) if has else None
+
+    def glyph_h_advance(self, glyph: int) -> int:
+        """The advance of a glyph in a horizontal line, in font units."""
+        with self._lock:
+            return LIBRARY.kus_font_get_glyph_h_advance(self._handle, number(glyph, "glyph"))
+
+    def glyph_v_advance(self, glyph: int) -> int:
+        """The advance of a glyph in a vertical line, in font units, at most 0."""
+        with self._lock:
+            return LIBRARY.kus_font_get_glyph_v_advance(self._handle, number(glyph, "glyph"))
 
     def feature_tags(self, table: str) -> list[str]:
         """The tags of the features of a table, "GSUB" or "GPOS", in the order of their indices."""

@@ -221,6 +221,16 @@ impl Font {
         unsafe { kus_font_get_glyph_extents(&mut self.handle, glyph, &mut extents) }.then_some(extents)
     }
 
+    /// The advance of a glyph in a horizontal line, in font units.
+    pub fn glyph_h_advance(&mut self, glyph: u32) -> i32 {
+        unsafe { kus_font_get_glyph_h_advance(&mut self.handle, glyph) }
+    }
+
+    /// The advance of a glyph in a vertical line, in font units, at most 0.
+    pub fn glyph_v_advance(&mut self, glyph: u32) -> i32 {
+        unsafe { kus_font_get_glyph_v_advance(&mut self.handle, glyph) }
+    }
+
     /// The tags of the features of a table, in the order of their indices; a tag may come more than once.
     pub fn feature_tags(&mut self, table: Table) -> Vec<Tag> {
         self.tags(kus_font_get_feature_tags, table)

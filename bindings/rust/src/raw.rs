@@ -147,6 +147,8 @@ extern "C" {
     pub(crate) fn kus_font_get_nominal_glyph(font: *mut Handle, unicode: u32, glyph: *mut u32) -> bool;
     pub(crate) fn kus_font_get_glyph_name(font: *mut Handle, glyph: u32, name: *mut u8, name_room: usize) -> usize;
     pub(crate) fn kus_font_get_glyph_extents(font: *mut Handle, glyph: u32, extents: *mut GlyphExtents) -> bool;
+    pub(crate) fn kus_font_get_glyph_h_advance(font: *mut Handle, glyph: u32) -> i32;
+    pub(crate) fn kus_font_get_glyph_v_advance(font: *mut Handle, glyph: u32) -> i32;
     pub(crate) fn kus_font_get_feature_tags(font: *mut Handle, table: u32, tags: *mut u32, tags_room: usize) -> usize;
     pub(crate) fn kus_font_get_script_tags(font: *mut Handle, table: u32, tags: *mut u32, tags_room: usize) -> usize;
 }

@@ -1,5 +1,5 @@
 -- What a font says of itself, and of the glyphs of its last text.
-use Rattle.std.specs.Prelude.{ℕ, ℤ, pos, ◌≡◌, ◌==◌, ◌⊎◌, nat_lt, true, false, if◌then◌else◌, List, [], map, length, Option, Some, None}
+use Rattle.std.specs.Prelude.{ℕ, ℤ, pos, neg_ℤ, ◌≡◌, ◌==◌, ◌⊎◌, nat_lt, true, false, if◌then◌else◌, List, [], map, length, Option, Some, None}
 use Rattle.std.specs.Option.{option_map, option_map_or}
 use Rattle.std.specs.Str.{is_utf8}
 use lib.Utf8.{scalar}
@@ -8,7 +8,7 @@ use Rattle.buffer_glyphs.specs.declared.names.hb_glyph_extents_t.{hb_glyph_exten
 use Rattle.buffer_glyphs.specs.Items.{clusters}
 use Rattle.layout_common.specs.Rows.{value_of}
 use Rattle.layout_face.specs.declared.parts.FaceParts.{FaceParts}
-use Rattle.layout_face.specs.Glyphs.{name_of, nominal_glyph}
+use Rattle.layout_face.specs.Glyphs.{height_of, name_of, nominal_glyph, width_of}
 use Rattle.layout_tables.specs.Layout.{LayoutLists}
 use Rattle.shape_slices.specs.declared.slices.SourceSlice.{SourceSlice}
 use Rattle.shape_slices.specs.Fitting.{SlicesFit}
@@ -41,6 +41,17 @@ name_in (Some f) glyph = if nat_lt glyph 0x1_0000 then option_map_or (λ (name :
 abbrev pub extents_in : Option KeptFont → ℕ → Option hb_glyph_extents_t
 extents_in None glyph = None
 extents_in (Some f) glyph = if nat_lt glyph 0x1_0000 then value_of glyph f.input.face.extents else None
+
+-- the advance of a glyph in a horizontal line (OpenType, table hmtx), 0 where there is no font or no glyph has the number
+abbrev pub h_advance_in : Option KeptFont → ℕ → ℤ
+h_advance_in None glyph = pos 0
+h_advance_in (Some f) glyph = if nat_lt glyph 0x1_0000 then pos (width_of glyph f.input.face) else pos 0
+
+-- the advance of a glyph in a vertical line (OpenType, table vmtx), at most 0; 0 where there is no font or no glyph has the
+-- number
+abbrev pub v_advance_in : Option KeptFont → ℕ → ℤ
+v_advance_in None glyph = pos 0
+v_advance_in (Some f) glyph = if nat_lt glyph 0x1_0000 then neg_ℤ (pos (height_of glyph f.input.face)) else pos 0
 
 -- the lists of the layout table that a tag names: GSUB or GPOS
 abbrev pub layout_in : FaceParts → ℕ → Option LayoutLists

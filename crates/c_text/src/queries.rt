@@ -3,7 +3,7 @@
 //! The functions for tags of features and of scripts have one form, over rows of two types.
 ghost use Rattle.std.specs.Prelude.{◌≡◌, ◌≢◌, Some, length};
 ghost use Rattle.std.specs.Option.{option_copied, option_map};
-ghost use Rattle.c_text.specs.Queries.{AreSlicesOf, IsSlicesRefusal, extents_in, feature_tags, glyph_in, layout_in, name_in, script_tags};
+ghost use Rattle.c_text.specs.Queries.{AreSlicesOf, IsSlicesRefusal, extents_in, feature_tags, glyph_in, h_advance_in, layout_in, name_in, script_tags, v_advance_in};
 ghost use Rattle.c_text.specs.Written.{extents_of, with_front};
 
 use crate::font::Font;
@@ -77,6 +77,26 @@ pub fn glyph_extents(font: &Font, glyph: u32) -> Option<kus_glyph_extents_t>
         Some(extents) => Some(extents_of(extents)),
         None => None,
     }
+}
+
+/// The advance that a font gives a glyph in a horizontal line, in font units.
+pub fn glyph_h_advance(font: &Font, glyph: u32) -> i32
+    ensures { result ≡ h_advance_in (Some font.now) glyph }
+{
+    let Ok(glyph) = u16::try_from(glyph) else {
+        return 0;
+    };
+    font.face().glyph_h_advance(glyph)
+}
+
+/// The advance that a font gives a glyph in a vertical line, in font units, at most 0.
+pub fn glyph_v_advance(font: &Font, glyph: u32) -> i32
+    ensures { result ≡ v_advance_in (Some font.now) glyph }
+{
+    let Ok(glyph) = u16::try_from(glyph) else {
+        return 0;
+    };
+    font.face().glyph_v_advance(glyph)
 }
 
 /// The lists of the layout table that a tag names.

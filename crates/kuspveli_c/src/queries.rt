@@ -7,12 +7,13 @@ ghost use Rattle.std.specs.Option.{option_map};
 ghost use Rattle.c_text.specs.Numbers.{direction_number, script_number};
 ghost use Rattle.c_text.specs.Written.{extents_of, with_front};
 ghost use Rattle.c_text.specs.Fonts.{glyphs_of, segment_in};
-ghost use Rattle.c_text.specs.Queries.{AreSlicesOf, IsSlicesFault, ascender_in, extents_in, feature_tags_in, glyph_in, name_in, script_tags_in, upem_in};
+ghost use Rattle.c_text.specs.Queries.{AreSlicesOf, IsSlicesFault, ascender_in, extents_in, feature_tags_in, glyph_in, h_advance_in, name_in, script_tags_in, upem_in, v_advance_in};
 
 use c_text::handle::Handle;
 use c_text::numbers::{NO_FONT, direction_number, script_number};
 use c_text::queries::{
-    glyph_extents, glyph_name, layout_in, nominal_glyph, write_feature_tags, write_script_tags,
+    glyph_extents, glyph_h_advance, glyph_name, glyph_v_advance, layout_in, nominal_glyph,
+    write_feature_tags, write_script_tags,
 };
 use c_text::types::{kus_glyph_extents_t, kus_slice_t};
 use c_text::written::write_front;
@@ -176,6 +177,36 @@ pub extern "C" fn kus_font_get_glyph_extents(
     };
     *extents = found;
     true
+}
+
+/// The advance that the font gives a glyph in a horizontal line, in font units; 0 where there is no font or no glyph has the
+/// number.
+#[unsafe(no_mangle)]
+pub extern "C" fn kus_font_get_glyph_h_advance(alloc: Global, font: &mut Handle, glyph: u32) -> i32
+    ensures same { font.new.value ≡ font.old.value }
+    ensures advance { result ≡ h_advance_in font.old.value glyph }
+{
+    let Some(shown) = font.take(alloc) else {
+        return 0;
+    };
+    let advance = glyph_h_advance(&shown, glyph);
+    font.put(alloc, shown);
+    advance
+}
+
+/// The advance that the font gives a glyph in a vertical line, in font units, at most 0; 0 where there is no font or no
+/// glyph has the number.
+#[unsafe(no_mangle)]
+pub extern "C" fn kus_font_get_glyph_v_advance(alloc: Global, font: &mut Handle, glyph: u32) -> i32
+    ensures same { font.new.value ≡ font.old.value }
+    ensures advance { result ≡ v_advance_in font.old.value glyph }
+{
+    let Some(shown) = font.take(alloc) else {
+        return 0;
+    };
+    let advance = glyph_v_advance(&shown, glyph);
+    font.put(alloc, shown);
+    advance
 }
 
 /// The tags of the features of a layout table, GSUB or GPOS, as many as there is room for, in the order of their indices;

@@ -11,8 +11,9 @@ use crate::calls::{
 };
 use crate::queries::{
     kus_font_get_ascender, kus_font_get_feature_tags, kus_font_get_glyph_extents,
-    kus_font_get_glyph_name, kus_font_get_nominal_glyph, kus_font_get_script_tags,
-    kus_font_get_upem, kus_get_direction, kus_get_script, kus_get_slices, kus_version,
+    kus_font_get_glyph_h_advance, kus_font_get_glyph_name, kus_font_get_glyph_v_advance,
+    kus_font_get_nominal_glyph, kus_font_get_script_tags, kus_font_get_upem, kus_get_direction,
+    kus_get_script, kus_get_slices, kus_version,
 };
 use c_text::handle::{Handle, TablesHandle};
 use c_text::types::{
@@ -363,6 +364,13 @@ fn glyphs_are_named_and_boxed(alloc: Global, font: &mut Handle) -> bool {
         && sizes == (30, -40)
 }
 
+fn glyphs_have_advances(alloc: Global, font: &mut Handle) -> bool {
+    kus_font_get_glyph_h_advance(alloc, font, 7) == 520
+        && kus_font_get_glyph_h_advance(alloc, font, 0x10007) == 0
+        && kus_font_get_glyph_v_advance(alloc, font, 7) == -1000
+        && kus_font_get_glyph_v_advance(alloc, font, 0x10007) == 0
+}
+
 fn tags_are_listed(alloc: Global, font: &mut Handle) -> bool {
     let mut tags = [0; 2];
     kus_font_get_feature_tags(alloc, font, 0x47535542, &mut tags) == 1
@@ -383,6 +391,7 @@ fn questions_are_answered(alloc: Global, font: &mut Handle) -> Result<bool, Allo
             && kus_font_get_upem(alloc, font) == 1000
             && kus_font_get_ascender(alloc, font) == 800
             && glyphs_are_named_and_boxed(alloc, font)
+            && glyphs_have_advances(alloc, font)
             && tags_are_listed(alloc, font),
     )
 }
