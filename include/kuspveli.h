@@ -7,7 +7,7 @@
  *     kus_font_destroy (&font);
  *
  * What the caller has to keep, and nothing checks:
- *   - No pointer is NULL, not even one with length 0 (kus_text() fills them in), but for the tables of
+ *   - No pointer is NULL, not even one with length 0 (kus_text() fills them in), but for the tables and the bytes of
  *     kus_font_create_from_bytes().
  *   - A pointer and its length are of one array, which lives during the call and which no one writes meanwhile.
  *   - What a call writes (handles, arrays with room, count, glyph, extents) overlaps nothing else that is passed to it.
@@ -237,15 +237,25 @@ kus_status_t kus_font_create_from_bytes_over (kus_font_t *font, kus_tables_t *ta
 kus_status_t kus_font_create_from_bytes_alone (kus_font_t *font, const uint8_t *bytes, size_t length, size_t index,
                                                uint32_t flags);
 
-/* The same over tables, or where `tables` is NULL over those that are inside the library. */
+/* The same over tables, or where `tables` is NULL over those that are inside the library. Where `bytes` is NULL the file
+ * ends too early. */
 static inline kus_status_t
 kus_font_create_from_bytes (kus_font_t *font, kus_tables_t *tables, const uint8_t *bytes, size_t length, size_t index,
                             uint32_t flags)
 {
+  if (!bytes)
+    return KUS_FONT_SHORT;
   if (tables)
     return kus_font_create_from_bytes_over (font, tables, bytes, length, index, flags);
   return kus_font_create_from_bytes_alone (font, bytes, length, index, flags);
 }
+
+/* Why kus_font_create_from_bytes() doesn't read a font with these arguments, as text: the fault's name, then the table
+ * that is at fault and the offset in it (or in the file, where it is of no table), if the fault has them, as in "F1 Short
+ * in glyf at 1234". The file is read once more. Writes the text as far as there is room and with no byte 0 after it, and
+ * returns its length, which is less than 64; 0 where the font is read. */
+size_t kus_describe_fault (const uint8_t *bytes, size_t length, size_t index, uint32_t flags, uint8_t *text,
+                           size_t text_room);
 
 /* Makes `other` another handle of the font, which shares what was read; a font that `other` had is dropped. On a fault
  * both stay as they were. */

@@ -29,6 +29,8 @@ WITHOUT_EXTENTS, WITHOUT_NAMES = 1, 2
 # (KUS_FLAG_UTF16, KUS_FLAG_UTF32).
 ORDER = "le" if sys.byteorder == "little" else "be"
 ENCODINGS = {"bytes": ("utf-8", 0), "utf16": (f"utf-16-{ORDER}", 0x10000), "characters": (f"utf-32-{ORDER}", 0x20000)}
+# The faults of font files, and how long the text of one is at most.
+FILE_FAULTS, MOST_OF_A_TEXT = range(20, 26), 64
 # What a tag is made of: printed ASCII characters (OpenType).
 TAG = re.compile(r"[\x20-\x7e]{1,4}")
 # A feature as text: -liga, +kern, kern=1, ccmp[0:3]=0, aalt[2]=3.
@@ -96,6 +98,7 @@ def load(path: Union[str, "os.PathLike[str]"]) -> ctypes.CDLL:
     declare(found, "kus_count_fonts", size, bytes_, size)
     declare(found, "kus_font_create_from_bytes_over", u32, handle, handle, bytes_, size, size, u32)
     declare(found, "kus_font_create_from_bytes_alone", u32, handle, bytes_, size, size, u32)
+    declare(found, "kus_describe_fault", size, bytes_, size, size, u32, bytes_, size)
     declare(found, "kus_font_reference", u32, handle, handle)
     declare(found, "kus_font_destroy", None, handle)
     declare(found, "kus_shape", u32, handle, ctypes.POINTER(RawText), *rooms, ctypes.POINTER(size))
@@ -215,19 +218,28 @@ HANDLES = Handles()
 
 
 class Fault(Exception):
-    """Why the library refused a call."""
+    """Why the library refused a call, and of a font file where."""
 
-    def __init__(self, status: int) -> None:
-        super().__init__(NAMES.get(status, f"status {status}"))
+    def __init__(self, status: int, text: str = "") -> None:
+        super().__init__(text or NAMES.get(status, f"status {status}"))
         self.status = status
 
     def __reduce__(self) -> Any:
-        return Fault, (self.status,)
+        return Fault, (self.status, str(self))
 
 
 def check(status: int) -> None:
     if status:
         raise Fault(status)
+
+
+def check_file(status: int, *given: Any) -> None:
+    """With the table and the offset that are at fault, where a file has such ones."""
+    if status in FILE_FAULTS:
+        text = ctypes.create_string_buffer(MOST_OF_A_TEXT)
+        length = LIBRARY.kus_describe_fault(*given, text, MOST_OF_A_TEXT)
+        raise Fault(status, text.raw[:length].decode())
+    check(status)
 
 
 # ---- what is passed and what is answered
@@ -554,7 +566,11 @@ class Font(Held):
     ) -> "Font":
         """The font with an index of a font file."""
         with open(path, "rb") as file:
-            return cls(file.read(), index=index, tables=tables, extents=extents, names=names)
+            read = file.read()
+        try:
+            return cls(read, index=index, tables=tables, extents=extents, names=names)
+        except Fault as fault:
+            raise Fault(fault.status, f"{path}: {fault}") from None
 
     def _read_file(
         self, read: bytes, *, index: int = 0, tables: Optional[Tables] = None, extents: bool = True, names: bool = True
@@ -562,10 +578,10 @@ class Font(Held):
         given = (read, len(read), number(index, "index"), (not extents) * WITHOUT_EXTENTS | (not names) * WITHOUT_NAMES)
         if tables is None:
             with self._lock:
-                check(LIBRARY.kus_font_create_from_bytes_alone(self._handle, *given))
+                check_file(LIBRARY.kus_font_create_from_bytes_alone(self._handle, *given), *given)
         elif isinstance(tables, Tables):
             with self._lock, tables._lock:
-                check(LIBRARY.kus_font_create_from_bytes_over(self._handle, tables._handle, *given))
+                check_file(LIBRARY.kus_font_create_from_bytes_over(self._handle, tables._handle, *given), *given)
         else:
             raise TypeError(f"tables: {type(tables).__name__} is no Tables")
 

@@ -242,15 +242,25 @@ class Answered(unittest.TestCase):
             fonts += [self.binding.Font(FILE, tables=self.binding.Tables(TABLES), extents=False)]
             with self.assertRaises(self.binding.Fault) as caught:
                 self.binding.Font.open(path, 1)
-        self.assertEqual(str(caught.exception), "F4 Index")
+        self.assertEqual((str(caught.exception), caught.exception.status), (f"{path}: F4 Index", 23))
+        again = copy.copy(caught.exception)
+        self.assertEqual((str(again), again.status), (f"{path}: F4 Index", 23))
         self.assertEqual([shaped(font) for font in fonts], [rows] * len(fonts))
         self.assertEqual([font.upem() for font in fonts], [1000] * len(fonts))
         counts = [self.binding.count_fonts(given) for given in (FILE, b"ttcf\0\1\0\0\0\0\0\3", FONT, b"")]
         self.assertEqual(counts, [1, 3, 0, 0])
 
     def test_other_files(self) -> None:
-        """What is no font file is told, and what is no bytes is refused before the call."""
-        for given, wanted in ((FILE[:8], "F1 Short"), (FONT, "F2 Kind"), (FILE[:12].replace(b"\5", b"\0", 1), "F5 Missing")):
+        """What is no font file is told, with the table and the offset that are at fault (OpenType, chapter 4), and what is no
+        bytes is refused before the call."""
+        rows = (
+            (FILE[:8], "F1 Short at 0"),
+            (FONT, "F2 Kind at 0"),
+            (FILE[:12], "F1 Short at 12"),
+            (FILE[:12].replace(b"\5", b"\0", 1), "F5 Missing in head"),
+            (FILE.replace(b"maxp", b"maxq", 1), "F5 Missing in maxp"),
+        )
+        for given, wanted in rows:
             with self.assertRaises(self.binding.Fault) as caught:
                 self.binding.Font(given)
             self.assertEqual(str(caught.exception), wanted)

@@ -35,6 +35,18 @@ pub fn count_fonts(bytes: &[u8]) -> usize {
     unsafe { kus_count_fonts(bytes.as_ptr(), bytes.len()) }
 }
 
+/// Why the font with an index of the bytes of a font file isn't read, if it isn't: the fault's name, then the table that is
+/// at fault and the offset in it (or in the file, where it is of no table), if the fault has them. The file is read once
+/// more.
+pub fn describe_fault(bytes: &[u8], index: usize) -> Option<String> {
+    let mut text = [0; 64];
+    let length = unsafe {
+        kus_describe_fault(bytes.as_ptr(), bytes.len(), index, 0, text.as_mut_ptr(), text.len())
+    };
+    let told = &text[..length.min(text.len())];
+    if told.is_empty() { None } else { String::from_utf8(told.to_vec()).ok() }
+}
+
 /// A font with its tables, and the glyphs of the last text. It may be moved to another thread; `another` gives a thread
 /// its own.
 pub struct Font {

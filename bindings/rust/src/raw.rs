@@ -114,6 +114,14 @@ extern "C" {
         index: usize,
         flags: u32,
     ) -> u32;
+    pub(crate) fn kus_describe_fault(
+        bytes: *const u8,
+        length: usize,
+        index: usize,
+        flags: u32,
+        text: *mut u8,
+        text_room: usize,
+    ) -> usize;
     pub(crate) fn kus_font_reference(font: *mut Handle, other: *mut Handle) -> u32;
     pub(crate) fn kus_font_destroy(font: *mut Handle);
     pub(crate) fn kus_shape(

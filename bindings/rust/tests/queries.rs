@@ -1,6 +1,6 @@
 //! What a font says of itself, of a font of four characters whose numbers stand in examples/ligature_font.json.
 
-use kuspveli::{count_fonts, Fault, Font, Tables, Text};
+use kuspveli::{count_fonts, describe_fault, Fault, Font, Tables, Text};
 
 #[test]
 fn fonts_answer_from_their_json() -> Result<(), Fault> {
@@ -29,6 +29,18 @@ fn fonts_are_read_from_files() -> Result<(), Fault> {
     assert_eq!(Font::from_slice(b"{\"upem\":1000}", 0).err(), Some(Fault::FontKind));
     assert_eq!([count_fonts(file), count_fonts(b"ttcf\0\x01\0\0\0\0\0\x03"), count_fonts(b"")], [1, 3, 0]);
     Ok(())
+}
+
+/// The list of tables begins at 0 and has at least 12 bytes (OpenType, chapter 4).
+#[test]
+fn faults_of_files_are_described() {
+    let file = include_bytes!("../../../crates/paragraph_example/data/font.ttf");
+    let json = b"{\"upem\":1000}";
+    let told = |bytes: &[u8], index| describe_fault(bytes, index);
+    assert_eq!(told(file, 0), None);
+    assert_eq!(told(file, 1).as_deref(), Some("F4 Index"));
+    assert_eq!(told(&file[..11], 0).as_deref(), Some("F1 Short at 0"));
+    assert_eq!(told(json, 0).as_deref(), Some("F2 Kind at 0"));
 }
 
 #[test]

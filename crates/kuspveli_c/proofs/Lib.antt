@@ -1,2 +1,3 @@
 mod Slices
 mod Results
+mod Told

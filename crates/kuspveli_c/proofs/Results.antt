@@ -58,7 +58,7 @@ font_was_read tables font f kept same new read = record { input = f.input; read 
 
 -- ---- where there is no font, nothing is written
 
-none_written : {A : Type 0} (room : List A) → with_front [] room ≡ room
+pub none_written : {A : Type 0} (room : List A) → with_front [] room ≡ room
 none_written room = ap (λ l. l ++ room) (take-nil (length room))
 
 pub no_infos : (font : Option KeptFont) (room now : List kus_glyph_info_t) → font ≡ None → now ≡ room → now ≡ with_front (map info_of (all_glyphs (glyphs_of font))) room

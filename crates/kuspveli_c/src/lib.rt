@@ -2,6 +2,7 @@
 #![tactic(auto)]
 
 pub mod calls;
+pub mod faults;
 pub mod names;
 pub mod queries;
 #[cfg(test)]

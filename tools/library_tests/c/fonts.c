@@ -109,6 +109,37 @@ try_collection (bytes_t file, bytes_t collection, size_t fonts, size_t count)
   kus_font_destroy (&font);
 }
 
+/* What is told of a font of a file: a fault's text, as long as it is, or nothing; as far as there is room. */
+static void
+expect_text (bytes_t file, size_t length, size_t index, const char *text)
+{
+  uint8_t told[64], few[4] = "....";
+  size_t found = kus_describe_fault (file.bytes, length, index, KUS_FONT_DEFAULT, told, sizeof told);
+  expect (found == strlen (text) && !memcmp (told, text, found), text);
+  expect (kus_describe_fault (file.bytes, length, index, KUS_FONT_DEFAULT, few, 2) == found, "its length without room");
+  expect (!memcmp (few, found ? (uint8_t[]) { told[0], told[1], '.', '.' } : (const uint8_t *) "....", 4), "two bytes of it");
+}
+
+/* What is wrong with a file, and where: by the list of its tables (OpenType, chapter 4), of which one is cut. */
+static void
+try_texts (bytes_t file)
+{
+  static char json[] = "{\"upem\":1000}";
+  bytes_t other = { (uint8_t *) json, sizeof json - 1 };
+  expect_text (file, file.length, 0, "");
+  expect_text (file, file.length, 1, "F4 Index");
+  expect_text (file, 4, 0, "F1 Short at 0");
+  expect_text (other, other.length, 0, "F2 Kind at 0");
+  for (uint8_t *row = file.bytes + 12; memcmp (row, "maxp", 4) <= 0; row += 16)
+    if (!memcmp (row, "head", 4) || !memcmp (row, "maxp", 4)) {
+      char missing[] = "F5 Missing in ....";
+      memcpy (missing + strlen (missing) - 4, row, 4);
+      row[0]++;
+      expect_text (file, file.length, 0, missing);
+      row[0]--;
+    }
+}
+
 /* The text as characters, each in the cluster of its byte; how many. */
 static size_t
 characters_of (kus_character_t *characters)
@@ -243,6 +274,7 @@ main (int count, char **words)
   size_t glyphs = try_tables (words[1], file);
   try_flags (file, glyphs);
   try_collection (file, collection, strtoul (words[4], NULL, 10), glyphs);
+  try_texts (file);
   try_units (file, glyphs);
   try_names ();
   try_formats ();

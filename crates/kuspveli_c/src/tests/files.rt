@@ -5,6 +5,7 @@ use crate::calls::{
     kus_font_create_from_bytes_over, kus_font_create_with_tables, kus_tables_create,
     kus_tables_create_default, kus_tables_destroy,
 };
+use crate::faults::kus_describe_fault;
 use c_text::handle::{Handle, TablesHandle};
 use std::alloc::{AllocError, Global};
 use std::test::Fail;
@@ -89,6 +90,37 @@ fn files_have_their_numbers_of_fonts(rt: HostRuntime) -> Result<(), Fail> {
     assert_eq!(rt; kus_count_fonts(COLLECTION), 3);
     assert_eq!(rt; kus_count_fonts(b"{\"upem\":1000}"), 0);
     assert_eq!(rt; kus_count_fonts(b""), 0);
+    Ok(())
+}
+
+/// Whether the text of the fault of a font of a file is as wanted.
+fn is_described(
+    alloc: Global,
+    bytes: &[u8],
+    index: usize,
+    want: &[u8],
+) -> Result<bool, AllocError> {
+    let mut text = [0; 64];
+    let count = kus_describe_fault(alloc, bytes, index, 0, &mut text);
+    let told = text.get(..count).unwrap_or(&[]);
+    if told == b"OutOfMemory".as_slice() {
+        return Err(AllocError);
+    }
+    Ok(told == want)
+}
+
+/// The list of a file's tables begins at 0 and has at least 12 bytes (OpenType, chapter 4).
+#[test]
+fn faults_of_files_are_described(rt: HostRuntime) -> Result<(), Fail> {
+    let rows: [(&[u8], usize, &[u8]); 4] = [
+        (FILE, 0, b""),
+        (FILE, 1, b"F4 Index"),
+        (&FILE[..8], 0, b"F1 Short at 0"),
+        (b"{\"upem\":1000}", 0, b"F2 Kind at 0"),
+    ];
+    for (bytes, index, want) in rows {
+        assert!(rt; is_described(rt.alloc(), bytes, index, want)?);
+    }
     Ok(())
 }
 
