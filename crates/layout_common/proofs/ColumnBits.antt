@@ -146,11 +146,6 @@ all_subtables_set admits subtables words n le all k word o s there may at =
     let lt = Rattle.std.proofs.lemmas.Option.slice_get_within subtables k s there in
     sym (ap (λ w. word_has w (k % 64)) at) ∙ all k o s (omega (arith, lt, le)) there may
 
-pub no_columns : {S : Type 0} (admits : S → Option ℕ → Bool) (subtables : List S) (words : List ℕ) → words ≡ [] → AreColumns admits subtables words
-no_columns admits subtables words none k word o s there may at =
-    let gone : None ≡ Some word = sym (ap (λ ws. slice_get ws (k / 64 * 513 + column_of o)) none) ∙ at in
-    cc
-
 -- ---- a word is read
 
 pub never_clear : (b : ℕ) → b < 64 → has_bucket (2 ^ 64 - 1) b ≡ false → ⊥

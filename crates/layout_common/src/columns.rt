@@ -150,8 +150,8 @@ fn word_or_full(words: &[u64], row: usize, column: usize) -> u64
     }
 }
 
-#[tactic(auto, using(crate::proofs::ColumnBits::never_clear))]
 /// The word of 64 subtables for what is known of a side: bit i is clear where the i-th of them can't act beside it.
+#[tactic(auto, using(crate::proofs::ColumnBits::never_clear))]
 pub(crate) fn column_word(words: &[u64], row: usize, neighbour: Neighbour) -> u64
     ensures { (b : ℕ) → b < 64 → has_bucket result b ≡ false → IsClear words.now row neighbour b }
 {
