@@ -5,7 +5,7 @@
 //! a record) is written for each of the two tables, here and in `layout_positioning`, and the two repeat each other.
 //! Within this file too functions repeat clauses: each one of the cycle calls the next, so each requires what the next
 //! requires and refuses as the next refuses.
-ghost use Rattle.std.specs.Prelude.{ℕ, ◌≡◌, ◌≢◌, ◌≤◌, ◌<◌, ◌+◌, length, slice_get, IfOk, Option, Some, None};
+ghost use Rattle.std.specs.Prelude.{◌≡◌, ◌≢◌, ◌≤◌, ◌<◌, ◌+◌, length, slice_get, IfOk, Some, None};
 ghost use Rattle.layout_contexts.specs.Chains.{chain_rule, context_subtable};
 ghost use Rattle.layout_contexts.specs.Fitting.{chain_of};
 ghost use Rattle.layout_contexts.specs.Inside.{StaysInside};
@@ -13,12 +13,11 @@ ghost use Rattle.layout_contexts.specs.Nested.{each_nested, one_record};
 ghost use Rattle.layout_contexts.specs.Nesting.{Walking};
 ghost use Rattle.layout_contexts.specs.MatchIndices.{AreRising};
 ghost use Rattle.layout_contexts.specs.Rules.{chains_of};
-ghost use Rattle.layout_gsub.specs.Passing.{ArePassing};
-ghost use Rattle.layout_match.specs.Applied.{ApplyContext, apply_context_of};
-ghost use Rattle.buffer_stages.specs.Actions.{Action, first_rule, whole};
+ghost use Rattle.layout_match.specs.Applied.{apply_context_of};
+ghost use Rattle.buffer_stages.specs.Actions.{first_rule, whole};
 ghost use Rattle.buffer_stages.specs.Buffers.{cut_of};
 ghost use Rattle.buffer_stages.specs.Performing.{Performs, cut_with};
-ghost use Rattle.buffer_stages.specs.Ready.{HasGlyphAtCursor, IsAmongGlyphs, IsAtGlyph};
+ghost use Rattle.buffer_stages.specs.Ready.{IsAmongGlyphs, IsAtGlyph};
 ghost use Rattle.layout_substitution.specs.Lookups.{first_subtable, nested_actions, nested_act, nested_lookup};
 
 use buffer_core::buffer::hb_buffer_t;
@@ -26,8 +25,8 @@ use buffer_glyphs::cause::ShapeCause;
 use layout_common::digested::Digested;
 use layout_common::subtables::Subtables;
 use layout_contexts::{
-    ChainRule, begin_record, fails_unflagged, glyph_count, is_tried_at, match_chain, may_follow,
-    move_to_match_end, rule_at, rules_at, settle_match,
+    ChainRule, begin_record, fails_unflagged, glyph_count, is_tried_at, known_neighbours, match_chain,
+    may_follow, move_to_match_end, next_context, rule_at, rules_at, settle_match,
 };
 use layout_face::substitution::{SubstitutionSubtables, SubstitutionTable};
 use layout_gsub::apply::apply_first;
@@ -89,18 +88,6 @@ pub(crate) fn apply_subtables(
     }
 }
 
-/// The index of a context, from one on, that may act at the cursor: those before it pass there. Past the last one where
-/// none may.
-#[tactic(auto, using(buffer_stages::proofs::Lemmas::Glyphs::number_ahead))]
-fn next_context(subtables: &Subtables<ContextSubtable>, from: usize, buffer: &hb_buffer_t) -> usize
-    requires glyph_at_cursor { HasGlyphAtCursor buffer.now }
-    ensures on { from ≤ result }
-    ensures passed { (nest : Option (ℕ → Action)) (a : ApplyContext) (r : ℕ)
-        → ArePassing (context_subtable nest a) subtables.now from result (cut_with r buffer.now) }
-{
-    subtables.next_at(buffer.cur(0).as_glyph().0, from)
-}
-
 /// How many contexts there are.
 fn context_count(subtables: &Subtables<ContextSubtable>) -> usize
     ensures { result ≡ length subtables.now }
@@ -108,7 +95,8 @@ fn context_count(subtables: &Subtables<ContextSubtable>) -> usize
     subtables.as_slice().len()
 }
 
-/// Applies the first matching context at the cursor. Those that can't act at the glyph there aren't tried.
+/// Applies the first matching context at the cursor. Those that can't act there, at its glyph between the ones beside it,
+/// aren't tried.
 #[cycle(nested)]
 #[tactic(auto, using(buffer_stages::proofs::Lemmas::Performed::passed_first, buffer_stages::proofs::Lemmas::Performed::passed_open, buffer_stages::proofs::Lemmas::Performed::passed_unrefused, buffer_stages::proofs::Lemmas::Performed::passed_numbers))]
 fn apply_contexts(
@@ -125,9 +113,10 @@ fn apply_contexts(
     ensures context { apply_context_of ctx.new ≡ apply_context_of ctx.old }
 {
     let count = context_count(subtables);
+    let beside = known_neighbours(subtables, ctx, buffer);
     let mut k = 0;
     while k < count {
-        let next = next_context(subtables, k, buffer);
+        let next = next_context(subtables, &beside, k, buffer);
         let Some(subtable) = subtables.get(next) else {
             return Ok(false);
         };

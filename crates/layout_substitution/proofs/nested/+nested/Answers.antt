@@ -6,7 +6,7 @@ use Rattle.buffer_stages.specs.Actions.{Action, first_rule}
 use Rattle.buffer_stages.specs.Performing.{IsPerformed, Performs, cut_with}
 use Rattle.buffer_stages.proofs.Lemmas.Performed.{passed_all}
 use Rattle.buffer_stages.proofs.Lemmas.Firsts.{first_acts, first_refuses, first_passes}
-use Rattle.layout_gsub.proofs.Lemmas.Jumped.{is_there, jumped, jumped_all}
+use Rattle.layout_contexts.proofs.Lemmas.LeftOut.{is_there, jumped_over, jumped_over_all, same_neighbours}
 use Rattle.layout_contexts.specs.Chains.{Chain, chain_rule, context_subtable}
 use Rattle.layout_contexts.specs.Fitting.{IsMatched, chain_of}
 use Rattle.layout_contexts.specs.Rules.{chains_of, is_tried_at}
@@ -57,7 +57,7 @@ apply_contexts-returns-in_default-clause-performs t c =
     let q = c.args.ctx.now.random_state in
     let n = c.next_context-next.result in
     let nest = nested_actions c.args.table.now.lookups c.args.depth a in
-    jumped_all (context_subtable nest a) c.args.subtables.now c.loop-k.ctx.random_state q c.loop-k.k n c.args.buffer.now c.loop-k.buffer (c.next_context-next.ensures.passed nest a q) c.next_context-next.ensures.on i.passed c.in_default.ensures i.random
+    jumped_over_all (context_subtable nest a) c.args.subtables.now c.loop-k.ctx.random_state q c.loop-k.k n c.args.buffer.now c.loop-k.buffer (c.next_context-next.ensures.passed nest a q (same_neighbours c.known_neighbours-beside.result.before c.known_neighbours-beside.result.after a c.args.buffer.now c.loop-k.buffer i.passed.cut_is i.passed.still c.known_neighbours-beside.ensures)) c.next_context-next.ensures.on i.passed c.in_default.ensures i.random
 
 pub apply_contexts-returns-in-Ok-true-clause-performs : goal.apply_contexts-returns-in-Ok-true-clause-performs
 apply_contexts-returns-in-Ok-true-clause-performs t c =
@@ -68,7 +68,7 @@ apply_contexts-returns-in-Ok-true-clause-performs t c =
     let nest = nested_actions c.args.table.now.lookups c.args.depth a in
     let act : ContextSubtable → ApplyContext → Action = λ x b. context_subtable (nested_actions c.args.table.now.lookups c.args.depth b) b x in
     let there = is_there c.args.subtables.now n c.in-Some.subtable.now (sym c.in-Some.ensures) in
-    let passed = jumped (context_subtable nest a) c.args.subtables.now q c.loop-k.k n c.args.buffer.now c.loop-k.buffer (c.next_context-next.ensures.passed nest a q) c.next_context-next.ensures.on i.passed in
+    let passed = jumped_over (context_subtable nest a) c.args.subtables.now q c.loop-k.k n c.args.buffer.now c.loop-k.buffer (c.next_context-next.ensures.passed nest a q (same_neighbours c.known_neighbours-beside.result.before c.known_neighbours-beside.result.after a c.args.buffer.now c.loop-k.buffer i.passed.cut_is i.passed.still c.known_neighbours-beside.ensures)) c.next_context-next.ensures.on i.passed in
     first_acts act c.args.subtables.now n c.in-Some.subtable.now (apply_context_of c.loop-k.ctx) a c.loop-k.ctx.random_state q c.apply_context.new.ctx.random_state c.in-Ok-true.field-0 c.args.buffer.now c.loop-k.buffer c.apply_context.new.buffer there.0 there.1 passed i.context i.random c.in-Ok-true.field-0-test c.in-Ok-true.ensures.performs
 
 pub apply_contexts-returns-in-Err-clause-performs : goal.apply_contexts-returns-in-Err-clause-performs
@@ -80,7 +80,7 @@ apply_contexts-returns-in-Err-clause-performs t c =
     let nest = nested_actions c.args.table.now.lookups c.args.depth a in
     let act : ContextSubtable → ApplyContext → Action = λ x b. context_subtable (nested_actions c.args.table.now.lookups c.args.depth b) b x in
     let there = is_there c.args.subtables.now n c.in-Some.subtable.now (sym c.in-Some.ensures) in
-    let passed = jumped (context_subtable nest a) c.args.subtables.now q c.loop-k.k n c.args.buffer.now c.loop-k.buffer (c.next_context-next.ensures.passed nest a q) c.next_context-next.ensures.on i.passed in
+    let passed = jumped_over (context_subtable nest a) c.args.subtables.now q c.loop-k.k n c.args.buffer.now c.loop-k.buffer (c.next_context-next.ensures.passed nest a q (same_neighbours c.known_neighbours-beside.result.before c.known_neighbours-beside.result.after a c.args.buffer.now c.loop-k.buffer i.passed.cut_is i.passed.still c.known_neighbours-beside.ensures)) c.next_context-next.ensures.on i.passed in
     first_refuses act c.args.subtables.now n c.in-Some.subtable.now (apply_context_of c.loop-k.ctx) a c.loop-k.ctx.random_state q c.apply_context.new.ctx.random_state c.in-Err.cause c.args.buffer.now c.loop-k.buffer c.apply_context.new.buffer there.0 there.1 passed i.context i.random c.in-Err.ensures.performs
 
 pub apply_contexts-overflow_add-k : goal.apply_contexts-overflow_add-k
@@ -100,7 +100,7 @@ apply_contexts-loop-k-preserved t c =
     let nest = nested_actions c.args.table.now.lookups c.args.depth a in
     let act : ContextSubtable → ApplyContext → Action = λ x b. context_subtable (nested_actions c.args.table.now.lookups c.args.depth b) b x in
     let there = is_there c.args.subtables.now n c.in-Some.subtable.now (sym c.in-Some.ensures) in
-    let passed = jumped (context_subtable nest a) c.args.subtables.now q c.loop-k.k n c.args.buffer.now c.loop-k.buffer (c.next_context-next.ensures.passed nest a q) c.next_context-next.ensures.on i.passed in
+    let passed = jumped_over (context_subtable nest a) c.args.subtables.now q c.loop-k.k n c.args.buffer.now c.loop-k.buffer (c.next_context-next.ensures.passed nest a q (same_neighbours c.known_neighbours-beside.result.before c.known_neighbours-beside.result.after a c.args.buffer.now c.loop-k.buffer i.passed.cut_is i.passed.still c.known_neighbours-beside.ensures)) c.next_context-next.ensures.on i.passed in
     let p = first_passes act c.args.subtables.now n c.in-Some.subtable.now (apply_context_of c.loop-k.ctx) a c.loop-k.ctx.random_state q c.apply_context.new.ctx.random_state c.in-Ok-false.field-0 c.args.buffer.now c.loop-k.buffer c.apply_context.new.buffer there.0 there.1 passed i.context i.random c.in-Ok-false.field-0-test c.in-Ok-false.ensures.performs in
     record { passed = p.0; context = c.apply_context.ensures.context ∙ i.context; random = p.1 }
 
