@@ -1,5 +1,5 @@
 -- What the program does with the sources that it asks for.
-use Rattle.std.proofs.Common.{ℕ, ◌≡◌, true, List, [], ◌∷◌, ◌++◌, Result, Ok, Err, sym, ap, ◌∙◌, append_assoc, subst}
+use Rattle.std.proofs.Common.{ℕ, ◌≡◌, true, List, [], ◌∷◌, Result, Ok, Err, sym, subst}
 use Rattle.std.specs.Prelude.{⊤, Bool, Option, Some, None, IsErrAnd}
 use Rattle.std.proofs.KnownBytes.{Keeps-refl}
 use Rattle.shell_readers.specs.declared.fault.RunFault.{RunFault}
@@ -7,7 +7,7 @@ use Rattle.shell_words.specs.declared.font_options.FontLine.{FontLine}
 use Rattle.shell_words.specs.Words.{font_settings_in}
 use Rattle.shell_run.specs.Program.{Asks, Opening, Source}
 use Rattle.shell_run.specs.Program.Source.{File, Input}
-use Rattle.shell_run.proofs.Openings.{asks_none}
+use Rattle.shell_run.proofs.Openings.{asks_none, asks_then}
 use Rattle.shell_font_run.specs.declared.fault.FaultSubject.{FaultSubject}
 use Rattle.shell_font_run.specs.declared.fault.FaultSubject.TheVariants as subject
 use Rattle.shell_font_run.specs.declared.fault.FontRunFault.{FontRunFault}
@@ -15,12 +15,6 @@ use Rattle.shell_font_run.specs.Program.{AreBytes, DoesFont, FailsToRead, IsFont
 use Rattle.shell_font_run.specs.Program.PrintsFont.{printed}
 use Rattle.shell_font_run.specs.Program.ReadsFont.{read as font_read, unread as no_font}
 use Rattle.shell_font_run.specs.Program.RunsText.{given, input, unread as no_text}
-
-asks_then : (a b c : Option (List Opening)) (xs ys : List Opening) → Asks a b xs → Asks b c ys → Asks a c (xs ++ ys)
-asks_then None b c xs ys p q = tt
-asks_then (Some x) None c xs ys p q = absurd p
-asks_then (Some x) (Some y) None xs ys p q = absurd q
-asks_then (Some x) (Some y) (Some z) xs ys p q = q ∙ ap (λ l. l ++ ys) p ∙ append_assoc x xs ys
 
 -- a fault that `?` passes on
 pub passed_as : (result : Result ⊤ FontRunFault) (e : FontRunFault) (P : Result ⊤ FontRunFault → Type 0) → IsErrAnd result (λ (f : FontRunFault). f ≡ e) → P (Err e) → P result

@@ -8,7 +8,7 @@ pub asks_none : (a : Option (List Opening)) → Asks a a []
 asks_none None = tt
 asks_none (Some x) = sym (append-nil x)
 
-asks_then : (a b c : Option (List Opening)) (xs ys : List Opening) → Asks a b xs → Asks b c ys → Asks a c (xs ++ ys)
+pub asks_then : (a b c : Option (List Opening)) (xs ys : List Opening) → Asks a b xs → Asks b c ys → Asks a c (xs ++ ys)
 asks_then None b c xs ys p q = tt
 asks_then (Some x) None c xs ys p q = absurd p
 asks_then (Some x) (Some y) None xs ys p q = absurd q
