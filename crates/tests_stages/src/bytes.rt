@@ -1,6 +1,6 @@
 //! The bytes of syllables that a machine finds.
 use crate::buffers::{buffer_of, has_glyphs, limit};
-use crate::rows::{is_row, part, rows_of};
+use crate::rows::part;
 use crate::spans::SingleGlyphs;
 use buffer_glyphs::cause::ShapeCause;
 use script_categories::hb_ot_script_shaper_t::UNIVERSAL_SHAPER;
@@ -71,19 +71,9 @@ fn agrees_with(alloc: Global, table: &SyllableTable, row: &str) -> Result<bool, 
     Ok(has_glyphs(UNIVERSAL_SHAPER, "s", part(row, 5), &buffer))
 }
 
-fn agrees(alloc: Global, row: &str) -> Result<bool, Fail> {
+pub(crate) fn agrees(alloc: Global, row: &str) -> Result<bool, Fail> {
     let table = table(alloc, row)?;
     agrees_with(alloc, &table, row)
-}
-
-#[test]
-fn numbers_syllables(rt: HostRuntime) -> Result<(), Fail> {
-    let rows = rows_of(rt.alloc(), ROWS)?;
-    for row in rows.lines() {
-        let agrees = !is_row(row) || agrees(rt.alloc(), row)?;
-        assert!(rt; agrees, "{row}");
-    }
-    Ok(())
 }
 
 /// Whether a kind that the shaper doesn't have is refused as such.
@@ -104,7 +94,7 @@ fn refuses_an_unknown_kind(rt: HostRuntime) -> Result<(), Fail> {
 }
 
 // A name has the categories of the glyphs.
-static ROWS: &str = "
+pub(crate) static ROWS: &str = "
 # name; states; steps; accepting states; glyphs; their syllables
 N; 2; 0 O 1, 0 CGJ 1, 0 R 1, 1 O 0, 1 N 1; ; 1@0 c=N p=7; * s=1.non
 CGJ CGJ; 2; 0 CGJ 1, 0 VPre 1; ; 1@0 c=CGJ p=108, 2@1 c=CGJ p=108; *, *

@@ -1,8 +1,8 @@
 //! The Indic shaper's orders of syllables, by listed forms and by the forms of fonts.
 mod costs;
-mod font_rows;
-mod fonts;
+pub(crate) mod font_rows;
+pub(crate) mod fonts;
 mod forms;
-mod rows;
+pub(crate) mod rows;
 mod text;
 mod would_substitute;

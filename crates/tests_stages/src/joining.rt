@@ -1,6 +1,6 @@
 //! Arabic letters that connect: the form and the mask of each character.
 use crate::buffers::{buffer_of, has_glyphs};
-use crate::rows::{characters, is_row, mask, part, rows_of, value};
+use crate::rows::{characters, mask, part, value};
 use buffer_common::script::{ARABIC, MONGOLIAN};
 use buffer_unicode_tables::{UnicodeRows, UnicodeTables};
 use script_categories::hb_ot_script_shaper_t::ARABIC_SHAPER;
@@ -49,23 +49,13 @@ fn agrees_with(alloc: Global, tables: &UnicodeTables, row: &str) -> Result<bool,
     Ok(has_glyphs(ARABIC_SHAPER, "xm", part(row, 6), &buffer))
 }
 
-fn agrees(alloc: Global, row: &str) -> Result<bool, Fail> {
+pub(crate) fn agrees(alloc: Global, row: &str) -> Result<bool, Fail> {
     let tables = tables(alloc, part(row, 2))?;
     agrees_with(alloc, &tables, row)
 }
 
-#[test]
-fn joins(rt: HostRuntime) -> Result<(), Fail> {
-    let rows = rows_of(rt.alloc(), ROWS)?;
-    for row in rows.lines() {
-        let agrees = !is_row(row) || agrees(rt.alloc(), row)?;
-        assert!(rt; agrees, "{row}");
-    }
-    Ok(())
-}
-
 // A name has the names of the characters.
-static ROWS: &str = "
+pub(crate) static ROWS: &str = "
 # name; options; joining types; characters before the text, and after it; the text; forms and masks
 alef; isol=10 fina=20 fin2=40 medi=80 init=100; ; ; ; U+627@0 m=80000000 p=7; * x=7 m=80000000
 beh; isol=80000000 fina=10 fin2=20 fin3=40 medi=80 med2=100 init=200; 628 D; ; ; U+628@0 m=80000000 p=7; * m=80000000

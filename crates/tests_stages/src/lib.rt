@@ -34,4 +34,6 @@ mod stages;
 #[cfg(test)]
 mod syllables;
 #[cfg(test)]
+mod tables;
+#[cfg(test)]
 mod thai;

@@ -2,10 +2,10 @@
 ghost use Rattle.buffer_stages.specs.Ready.{IsReady};
 
 use crate::buffers::{buffer_of, has_glyphs};
-use crate::rows::{is_row, natural, part, rows_of};
+use crate::rows::{natural, part};
 use buffer_core::buffer::hb_buffer_t;
 use script_categories::hb_ot_script_shaper_t;
-use script_categories::hb_ot_script_shaper_t::{ARABIC_SHAPER, HEBREW_SHAPER};
+use script_categories::hb_ot_script_shaper_t::HEBREW_SHAPER;
 use std::alloc::Global;
 use std::test::Fail;
 
@@ -26,34 +26,18 @@ fn reorder(shaper: hb_ot_script_shaper_t, words: &str, buffer: &mut hb_buffer_t)
     script_arabic::marks::reorder_marks(buffer, start, end);
 }
 
-fn agrees(alloc: Global, shaper: hb_ot_script_shaper_t, row: &str) -> Result<bool, Fail> {
+pub(crate) fn agrees(
+    alloc: Global,
+    shaper: hb_ot_script_shaper_t,
+    row: &str,
+) -> Result<bool, Fail> {
     let mut buffer = buffer_of(alloc, shaper, part(row, 1), part(row, 2))?;
     reorder(shaper, part(row, 1), &mut buffer);
     Ok(has_glyphs(shaper, "n@k", part(row, 3), &buffer))
 }
 
-#[test]
-fn orders_arabic_marks(rt: HostRuntime) -> Result<(), Fail> {
-    let rows = rows_of(rt.alloc(), ARABIC)?;
-    for row in rows.lines() {
-        let agrees = !is_row(row) || agrees(rt.alloc(), ARABIC_SHAPER, row)?;
-        assert!(rt; agrees, "{row}");
-    }
-    Ok(())
-}
-
-#[test]
-fn orders_hebrew_marks(rt: HostRuntime) -> Result<(), Fail> {
-    let rows = rows_of(rt.alloc(), HEBREW)?;
-    for row in rows.lines() {
-        let agrees = !is_row(row) || agrees(rt.alloc(), HEBREW_SHAPER, row)?;
-        assert!(rt; agrees, "{row}");
-    }
-    Ok(())
-}
-
 // A name has the names of the characters.
-static ARABIC: &str = "
+pub(crate) static ARABIC: &str = "
 # name; options; characters; characters afterwards
 acute accent; end=1; U+301@0 p=12 k=234; U+301@0 k=234
 waw; end=1; U+8D3@0 p=12 k=220; U+8D3@0 k=25
@@ -121,7 +105,7 @@ beh, large round dot below and more, 7 in all; start=1 end=7;
   U+64E@0 p=12 k=234;
   U+628@0, U+8CF@0 k=25, U+655@0 k=25, U+6DC@0 k=26, U+8CA@0 k=26, U+6E8@0 k=26, U+64E@0 k=234";
 
-static HEBREW: &str = "
+pub(crate) static HEBREW: &str = "
 # name; options; characters; characters afterwards
 sin dot; end=1; U+5C2@0 p=12 k=25; U+5C2@0 k=25
 meteg, sin dot, hiriq; level=1 end=3; U+5BD@0 p=12 k=21, U+5C2@2 p=12 k=22, U+5B4@4 p=12 k=25;

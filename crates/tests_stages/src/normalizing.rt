@@ -1,6 +1,6 @@
 //! Normalizing on the buffer.
 mod in_place;
-mod indic;
-mod lists;
+pub(crate) mod indic;
+pub(crate) mod lists;
 mod rows;
 mod texts;

@@ -1,6 +1,6 @@
 //! Positions before and after their links are followed.
 use crate::glyphs::position_of;
-use crate::rows::{direction_of, distance, is_row, part, rows_of, value};
+use crate::rows::{direction_of, distance, part, value};
 use buffer_common::direction::Direction;
 use buffer_glyphs::position::GlyphPosition;
 use layout_offsets::followed_links::finish_offsets;
@@ -40,25 +40,15 @@ fn are_drawn(positions: &[GlyphPosition], row: &str) -> bool {
 }
 
 /// Whether the links of a row's positions are followed as it says.
-fn is_drawn(alloc: Global, row: &str) -> Result<bool, AllocError> {
+pub(crate) fn is_drawn(alloc: Global, row: &str) -> Result<bool, AllocError> {
     let words = part(row, 2).split(',');
     let mut positions: Vec<GlyphPosition> = words.map(|words| position(words)).collect(alloc)?;
     finish_offsets(&mut positions, direction_of(part(row, 1)));
     Ok(are_drawn(&positions, row))
 }
 
-#[test]
-fn runs_are_drawn(rt: HostRuntime) -> Result<(), Fail> {
-    let rows = rows_of(rt.alloc(), ROWS)?;
-    for row in rows.lines() {
-        let as_wanted = !is_row(row) || is_drawn(rt.alloc(), row)?;
-        assert!(rt; as_wanted, "{row}");
-    }
-    Ok(())
-}
-
 // A position has advances `a` and `b`, offsets `o` and `q`, and a link to another one, of a kind.
-static ROWS: &str = "
+pub(crate) static ROWS: &str = "
 # name; direction; positions; offsets afterwards
 ttb: cursive 2 to 1; ttb; o=10 q=7, o=10 q=7 link=-1 kind=cursive, a=-20 o=-30; o=10 q=7, o=20 q=7, o=-30
 rtl: cursive 1 to 2; rtl; a=100 o=10 link=1 kind=cursive, b=-900, q=200; o=10, o=0, q=200

@@ -3,7 +3,7 @@ ghost use Rattle.std.specs.Prelude.{◌≡◌, false};
 ghost use Rattle.buffer_stages.specs.Ready.{IsReady};
 
 use crate::buffers::{are_characters, buffer_of, has_glyphs};
-use crate::rows::{direction_of, is_row, mask, named, part, rows_of, script_of, value};
+use crate::rows::{direction_of, mask, named, part, rows_of, script_of, value};
 use buffer_common::constants::BufferFlags;
 use buffer_core::buffer::hb_buffer_t;
 use buffer_stages::glyphs::are_glyphs;
@@ -85,7 +85,7 @@ marks_12 {"upem":1000,"h":[[1,501],[2,501],[3,501],[4,501],[5,501],[6,501],[7,50
 circle {"cmap":[[9676,5]]}"#;
 
 // Only the fields are compared that the stage sets.
-static ROWS: &str = r#"
+pub(crate) static ROWS: &str = r#"
 # name; options; glyphs; glyphs afterwards; font; tables
 fraction: digit one; stage=fraction-masks frac=10 numr=20; U+31 p=13; U+31; empty; {}
 fraction: digit one, fraction slash, digit one; stage=fraction-masks direction=rtl frac=10 numr=20 dnom=40;
@@ -356,18 +356,12 @@ fn agrees_with_tables(
     stage_agrees(alloc, row, &face, tables)
 }
 
-fn agrees(alloc: Global, fonts: &str, row: &str) -> Result<bool, Fail> {
-    let tables = tables_of(alloc, part(row, 5))?;
-    agrees_with_tables(alloc, fonts, row, &tables)
+pub(crate) fn agrees(alloc: Global, row: &str) -> Result<bool, Fail> {
+    let fonts = rows_of(alloc, FONTS)?;
+    agrees_in(alloc, &fonts, row)
 }
 
-#[test]
-fn stages(rt: HostRuntime) -> Result<(), Fail> {
-    let fonts = rows_of(rt.alloc(), FONTS)?;
-    let rows = rows_of(rt.alloc(), ROWS)?;
-    for row in rows.lines() {
-        let agrees = !is_row(row) || agrees(rt.alloc(), &fonts, row)?;
-        assert!(rt; agrees, "{row}");
-    }
-    Ok(())
+fn agrees_in(alloc: Global, fonts: &str, row: &str) -> Result<bool, Fail> {
+    let tables = tables_of(alloc, part(row, 5))?;
+    agrees_with_tables(alloc, fonts, row, &tables)
 }

@@ -3,7 +3,7 @@ ghost use Rattle.std.specs.Prelude.{OnOk};
 ghost use Rattle.buffer_stages.specs.Ready.{IsReady};
 
 use crate::buffers::{buffer_of, has_glyphs, limit};
-use crate::rows::{hexadecimal, is_row, part, rows_of, value};
+use crate::rows::{hexadecimal, part, value};
 use buffer_core::buffer::hb_buffer_t;
 use buffer_glyphs::cause::ShapeCause;
 use buffer_stages::layout_stages::_hb_clear_substitution_flags;
@@ -34,7 +34,7 @@ fn shaper_of(rule: &str) -> hb_ot_script_shaper_t {
     }
 }
 
-fn agrees(alloc: Global, row: &str) -> Result<bool, Fail> {
+pub(crate) fn agrees(alloc: Global, row: &str) -> Result<bool, Fail> {
     let words = part(row, 1);
     let shaper = shaper_of(value(words, "rule"));
     let mut buffer = buffer_of(alloc, shaper, words, part(row, 2))?;
@@ -138,18 +138,8 @@ fn record(words: &str, buffer: &mut hb_buffer_t) -> Result<(), ShapeCause>
     Ok(())
 }
 
-#[test]
-fn follows_the_rules(rt: HostRuntime) -> Result<(), Fail> {
-    let rows = rows_of(rt.alloc(), ROWS)?;
-    for row in rows.lines() {
-        let agrees = !is_row(row) || agrees(rt.alloc(), row)?;
-        assert!(rt; agrees, "{row}");
-    }
-    Ok(())
-}
-
 // A name has the categories of the glyphs, or their syllables, or how many there are.
-static ROWS: &str = "
+pub(crate) static ROWS: &str = "
 # name; options; glyphs; glyphs afterwards
 Khmer: C H Ra; rule=khmer level=1; 97@0 s=1.consonant c=C, 98@3 s=1.consonant c=H, 99@6 s=1.consonant c=Ra;
   98@0 s=1.consonant c=H, 99@0 s=1.consonant c=Ra, 97@0 s=1.consonant c=C

@@ -1,29 +1,19 @@
 //! The Thai and Lao vowels that are decomposed.
 use crate::buffers::{buffer_of, has_glyphs};
-use crate::rows::{is_row, part, rows_of};
+use crate::rows::part;
 use script_categories::hb_ot_script_shaper_t::THAI_SHAPER;
 use script_thai::thai_vowel::preprocess_text;
 use std::alloc::Global;
 use std::test::Fail;
 
-fn agrees(alloc: Global, row: &str) -> Result<bool, Fail> {
+pub(crate) fn agrees(alloc: Global, row: &str) -> Result<bool, Fail> {
     let mut buffer = buffer_of(alloc, THAI_SHAPER, part(row, 1), part(row, 2))?;
     preprocess_text(&mut buffer)?;
     Ok(has_glyphs(THAI_SHAPER, "n@u", part(row, 3), &buffer))
 }
 
-#[test]
-fn splits(rt: HostRuntime) -> Result<(), Fail> {
-    let rows = rows_of(rt.alloc(), ROWS)?;
-    for row in rows.lines() {
-        let agrees = !is_row(row) || agrees(rt.alloc(), row)?;
-        assert!(rt; agrees, "{row}");
-    }
-    Ok(())
-}
-
 // A name has the names of the characters.
-static ROWS: &str = "
+pub(crate) static ROWS: &str = "
 # name; options; characters; characters afterwards
 am; level=1; U+EB3@0 p=7; U+ECD@0 p=12, U+EB2@0 p=7
 mai ek; level=1; U+EC8@0 p=12; U+EC8@0 p=12

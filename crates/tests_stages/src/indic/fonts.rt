@@ -3,8 +3,8 @@ ghost use Rattle.std.specs.Prelude.{OnOk};
 ghost use Rattle.buffer_stages.specs.Ready.{IsReady};
 
 use crate::buffers::{buffer_of, has_glyphs};
-use crate::indic::font_rows::{FONTS, ROWS};
-use crate::rows::{hexadecimal, is_row, part, rows_of, value};
+use crate::indic::font_rows::FONTS;
+use crate::rows::{hexadecimal, part, rows_of, value};
 use crate::stages::named_face;
 use buffer_common::script::{KANNADA, Script, TELUGU};
 use buffer_common::script_tags::script_tags;
@@ -111,18 +111,12 @@ fn agrees_in_font(alloc: Global, face: &Face, row: &str) -> Result<bool, Fail> {
     Ok(has_masks(&map, script, part(row, 1)) && orders(alloc, &map, script, face, row)?)
 }
 
-fn agrees(alloc: Global, fonts: &str, row: &str) -> Result<bool, Fail> {
+fn agrees_in(alloc: Global, fonts: &str, row: &str) -> Result<bool, Fail> {
     let face = named_face(alloc, fonts, part(row, 2))?;
     agrees_in_font(alloc, &face, row)
 }
 
-#[test]
-fn orders_syllables_by_fonts(rt: HostRuntime) -> Result<(), Fail> {
-    let fonts = rows_of(rt.alloc(), FONTS)?;
-    let rows = rows_of(rt.alloc(), ROWS)?;
-    for row in rows.lines() {
-        let agrees = !is_row(row) || agrees(rt.alloc(), &fonts, row)?;
-        assert!(rt; agrees, "{row}");
-    }
-    Ok(())
+pub(crate) fn agrees(alloc: Global, row: &str) -> Result<bool, Fail> {
+    let fonts = rows_of(alloc, FONTS)?;
+    agrees_in(alloc, &fonts, row)
 }

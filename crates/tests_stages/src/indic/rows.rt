@@ -1,11 +1,11 @@
 //! The two orders of syllables, by listed forms.
 //!
-//! The rows of the two orders have other options and need other calls, so each order has functions of its own that
-//! read its rows and walk over them.
-mod after_forms;
-mod before_forms;
-mod several_after_forms;
-mod several_before_forms;
+//! The rows of the two orders have other options and need other calls, so each order has a function of its own that
+//! reads its rows.
+pub(crate) mod after_forms;
+pub(crate) mod before_forms;
+pub(crate) mod several_after_forms;
+pub(crate) mod several_before_forms;
 
 ghost use Rattle.std.specs.Prelude.{OnOk};
 ghost use Rattle.buffer_stages.specs.Ready.{IsReady};
@@ -13,7 +13,7 @@ ghost use Rattle.buffer_stages.specs.Ready.{IsReady};
 use crate::buffers::{buffer_of, has_glyphs};
 use crate::indic::forms::ListedForms;
 use crate::indic::text::lists;
-use crate::rows::{hexadecimal, is_row, part, rows_of, value};
+use crate::rows::{hexadecimal, part, value};
 use buffer_core::buffer::hb_buffer_t;
 use buffer_glyphs::cause::ShapeCause;
 use script_categories::hb_ot_script_shaper_t::INDIC_SHAPER;
@@ -24,7 +24,6 @@ use script_indic_reordering::final_order::reorder_final;
 use script_indic_reordering::initial::reorder_initial;
 use script_indic_reordering::script::{IndicMasks, RephMode};
 use std::alloc::Global;
-use std::process::Abort;
 use std::test::Fail;
 
 fn masks_of(words: &str) -> IndicMasks {
@@ -73,7 +72,7 @@ fn order_initial(
     Ok(())
 }
 
-fn agrees_initially(alloc: Global, row: &str) -> Result<bool, Fail> {
+pub(crate) fn agrees_initially(alloc: Global, row: &str) -> Result<bool, Fail> {
     let words = part(row, 1);
     let forms = forms_of(alloc, words)?;
     let mut buffer = buffer_of(alloc, INDIC_SHAPER, words, part(row, 2))?;
@@ -93,40 +92,10 @@ fn order_final(
     Ok(())
 }
 
-fn agrees_finally(alloc: Global, row: &str) -> Result<bool, Fail> {
+pub(crate) fn agrees_finally(alloc: Global, row: &str) -> Result<bool, Fail> {
     let words = part(row, 1);
     let reph_position = indic_position_number(value(words, "reph")).ok_or("no position")?;
     let mut buffer = buffer_of(alloc, INDIC_SHAPER, words, part(row, 2))?;
     order_final(reph_position, &masks_of(words), &mut buffer)?;
     Ok(has_glyphs(INDIC_SHAPER, "n@mfcx", part(row, 3), &buffer))
-}
-
-fn rows_agree_initially(rt: &impl Abort, alloc: Global, table: &str) -> Result<(), Fail> {
-    let rows = rows_of(alloc, table)?;
-    for row in rows.lines() {
-        let agrees = !is_row(row) || agrees_initially(alloc, row)?;
-        assert!(rt; agrees, "{row}");
-    }
-    Ok(())
-}
-
-#[test]
-fn orders_syllables_before_their_forms(rt: HostRuntime) -> Result<(), Fail> {
-    rows_agree_initially(&rt, rt.alloc(), before_forms::ROWS)?;
-    rows_agree_initially(&rt, rt.alloc(), several_before_forms::ROWS)
-}
-
-fn rows_agree_finally(rt: &impl Abort, alloc: Global, table: &str) -> Result<(), Fail> {
-    let rows = rows_of(alloc, table)?;
-    for row in rows.lines() {
-        let agrees = !is_row(row) || agrees_finally(alloc, row)?;
-        assert!(rt; agrees, "{row}");
-    }
-    Ok(())
-}
-
-#[test]
-fn orders_syllables_after_their_forms(rt: HostRuntime) -> Result<(), Fail> {
-    rows_agree_finally(&rt, rt.alloc(), after_forms::ROWS)?;
-    rows_agree_finally(&rt, rt.alloc(), several_after_forms::ROWS)
 }

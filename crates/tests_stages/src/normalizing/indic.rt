@@ -3,7 +3,7 @@
 ghost use Rattle.std.specs.Prelude.{◌≡◌};
 
 use super::lists::{list_agrees, numbered, tables_of};
-use crate::rows::{is_row, part, rows_of, value};
+use crate::rows::{part, value};
 use buffer_core::buffer::hb_buffer_t;
 use buffer_properties::NormalizationMode;
 use buffer_unicode_tables::UnicodeTables;
@@ -95,23 +95,13 @@ fn agrees_with(alloc: Global, tables: &UnicodeTables, row: &str) -> Result<bool,
     list_agrees(alloc, &by, level, "ni@pk", part(row, 6), part(row, 7))
 }
 
-fn agrees(alloc: Global, row: &str) -> Result<bool, Fail> {
+pub(crate) fn agrees(alloc: Global, row: &str) -> Result<bool, Fail> {
     let tables = tables_of(alloc, part(row, 2), part(row, 3), part(row, 4))?;
     agrees_with(alloc, &tables, row)
 }
 
-#[test]
-fn indic_lists(rt: HostRuntime) -> Result<(), Fail> {
-    let rows = rows_of(rt.alloc(), ROWS)?;
-    for row in rows.lines() {
-        let agrees = !is_row(row) || agrees(rt.alloc(), row)?;
-        assert!(rt; agrees, "{row}");
-    }
-    Ok(())
-}
-
 // A name has the names of the characters.
-static ROWS: &str = r#"
+pub(crate) static ROWS: &str = r#"
 # name; options; decompositions; compositions; classes; glyphs; text; normalized text
 rha; level=1; ; ; ; ; U+9DD@0; U+9DD@0 p=7
 dda; ; ; ; ; ; U+9A1@0; U+9A1@0 p=7

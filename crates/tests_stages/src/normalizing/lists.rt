@@ -2,7 +2,7 @@
 use super::rows::RowNormalizer;
 use super::texts::normalized;
 use crate::buffers::has_glyphs;
-use crate::rows::{is_row, level_of, part, rows_of, value};
+use crate::rows::{level_of, part, value};
 use buffer_properties::NormalizationMode;
 use buffer_unicode_tables::{UnicodeRows, UnicodeTables};
 use script_categories::hb_ot_script_shaper_t::INDIC_SHAPER;
@@ -187,26 +187,16 @@ fn font_agrees(alloc: Global, tables: &UnicodeTables, row: &str) -> Result<bool,
     list_agrees(alloc, &by, level, letters, part(row, 7), part(row, 8))
 }
 
-fn agrees(alloc: Global, row: &str) -> Result<bool, Fail> {
+pub(crate) fn agrees(alloc: Global, row: &str) -> Result<bool, Fail> {
     let tables = tables_of(alloc, "", "", part(row, 2))?;
     font_agrees(alloc, &tables, row)
-}
-
-#[test]
-fn lists(rt: HostRuntime) -> Result<(), Fail> {
-    let rows = rows_of(rt.alloc(), ROWS)?;
-    for row in rows.lines() {
-        let agrees = !is_row(row) || agrees(rt.alloc(), row)?;
-        assert!(rt; agrees, "{row}");
-    }
-    Ok(())
 }
 
 // Options are the shaper's preference, the level, which fields of glyphs are compared, the font's invisible glyph,
 // and that of what is unjoined. Among the texts are runs of 32 marks, which is sorted, and of 33, which is unchanged;
 // marks of one class, after which no other one is composed with the letter; grapheme joiners, which keep two marks
 // apart or do not; and selectors that nothing combines with.
-static ROWS: &str = r#"
+pub(crate) static ROWS: &str = r#"
 # name; options; classes; glyphs; decompositions; compositions; variants; text; normalized text
 acute accent, dot below; mode=ComposedDiacritics seen=ni@; 301=230, 323=220; 301=1, 323=2; ; ; ; U+301@1, U+323@0;
   U+323@0 i=2, U+301@0 i=1
