@@ -135,6 +135,25 @@ fn read_array(
     Ok(rows)
 }
 
+/// How many glyphs a range has whose class isn't 0.
+fn range_size(range: ClassRangeRecord) -> usize {
+    if range.class == 0 {
+        return 0;
+    }
+    (usize::from(range.last) + 1).saturating_sub(usize::from(range.first))
+}
+
+/// How many glyphs the ranges of an array have whose class isn't 0, at most as many as there are glyphs.
+fn range_glyphs(table: &[u8], from: usize, count: usize) -> usize
+    requires { from + 6 * count ≤ length table.now }
+{
+    let mut glyphs = 0usize;
+    for index in 0..count {
+        glyphs = glyphs.saturating_add(range_size(class_range_record(table, from + 6 * index)));
+    }
+    glyphs.min(65536)
+}
+
 /// Reads the rows of an array of ranges of glyphs.
 #[tactic(auto, using(font_bytes::proofs::Recorded::records_more, font_bytes::proofs::Recorded::records_end))]
 fn read_range_array(
@@ -149,7 +168,7 @@ fn read_range_array(
     ensures refused { IfErr result (λ e. e ≢ TableFault.OutOfMemory
         → rows_in_ranges at (class_range_array table.now from count) ≡ Err e) }
 {
-    let mut rows = Vec::new(alloc);
+    let mut rows = Vec::with_capacity(alloc, range_glyphs(table, from, count))?;
     let mut least = 0;
     for index in 0..count {
         let range = class_range_record(table, from + 6 * index);
