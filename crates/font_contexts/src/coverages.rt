@@ -84,10 +84,10 @@ pub fn read_coverage_context(
         → coverage_context_at chained lookup_count room.old.left table.now at ≡ Err e) }
 {
     let arrays = arrays_at(chained, 0, table, at + 2)?;
-    let mut rules = Vec::new(alloc);
     if arrays.input.count == 0 {
-        return Ok(Array::new(rules));
+        return Ok(Array::new(Vec::new(alloc)));
     }
+    let mut rules = Vec::with_capacity(alloc, 1)?;
     rules.push(read_coverage_rule(alloc, lookup_count, table, at, arrays, room)?)?;
     Ok(Array::new(rules))
 }

@@ -9,7 +9,7 @@ use crate::arrays::counted_array;
 use crate::rules::RuleReader;
 use font_bytes::fault::TableFault;
 use font_bytes::room::Room;
-use font_bytes::words::{need, word};
+use font_bytes::words::{fits, need, word};
 use font_common::coverage::{numbers_below, read_glyphs_in_room};
 use font_common::offsets::read_at_offset;
 use font_common::rows::first_rows;
@@ -70,6 +70,36 @@ fn push_set(
     push_rules(rules, alloc, reader, table, at, count, room)
 }
 
+/// How many rules the set at an offset from a base has; 0 where the offset is null, or the table ends before its offsets.
+fn set_size(table: &[u8], base: usize, offset: u16) -> usize
+    requires { base ≤ length table.now }
+{
+    if offset == 0 {
+        return 0;
+    }
+    let at = base + usize::from(offset);
+    if !fits(table, at, 2) {
+        return 0;
+    }
+    let count = usize::from(word(table, at));
+    if fits(table, at + 2, 2 * count) {
+        count
+    } else {
+        0
+    }
+}
+
+/// How many rules sets have, at most as many as the table has room for their offsets.
+fn rule_count(table: &[u8], base: usize, sets: &[GlyphRow<u16>]) -> usize
+    requires { base ≤ length table.now }
+{
+    let mut count = 0usize;
+    for set in sets {
+        count = count.saturating_add(set_size(table, base, set.value));
+    }
+    count.min(table.len() / 2)
+}
+
 /// Reads the rules of sets, each with the item with which its inputs begin and its offset from a base.
 fn read_sets(
     alloc: Global,
@@ -86,7 +116,7 @@ fn read_sets(
     ensures refused { IfErr result (λ e. e ≢ TableFault.OutOfMemory
         → rules_of_sets (rules_at_offset chained lookup_count table.now base) room.old.left sets.now ≡ Err e) }
 {
-    let mut rules = Vec::new(alloc);
+    let mut rules = Vec::with_capacity(alloc, rule_count(table, base, sets))?;
     for set in sets {
         let reader = RuleReader {
             chained,
