@@ -26,9 +26,10 @@ use crate::cursive_join::CursiveAttachment;
 use buffer_core::buffer::hb_buffer_t;
 use buffer_glyphs::cause::ShapeCause;
 use layout_common::digested::Digested;
+use layout_common::subtables::Subtables;
 use layout_contexts::{
-    ChainRule, begin_record, fails_unflagged, glyph_count, is_tried_at, match_chain, may_follow,
-    move_to_match_end, rule_at, rules_at, settle_match,
+    ChainRule, begin_record, fails_unflagged, glyph_count, is_tried_at, known_neighbours, match_chain,
+    may_follow, move_to_match_end, next_context, rule_at, rules_at, settle_match,
 };
 use layout_face::positioning::{PositioningLookup, PositioningSubtables, PositioningTable};
 use layout_gpos::apply::apply_first;
@@ -129,17 +130,25 @@ pub(crate) fn apply_subtables(
             Ok(apply_first::<MarkToMark>(subtables.as_slice(), ctx, last, buffer))
         }
         PositioningSubtables::Context(subtables) | PositioningSubtables::ChainContext(subtables) =>
-            { apply_contexts(table, depth, subtables.as_slice(), ctx, last, buffer) }
+            { apply_contexts(table, depth, subtables, ctx, last, buffer) }
     }
 }
 
-/// Applies the first matching context at the cursor.
+/// How many contexts there are.
+fn context_count(subtables: &Subtables<ContextSubtable>) -> usize
+    ensures { result ≡ length subtables.now }
+{
+    subtables.as_slice().len()
+}
+
+/// Applies the first matching context at the cursor. Those that can't act there, at its glyph between the ones beside it,
+/// aren't tried.
 #[cycle(nested)]
 #[tactic(auto, using(buffer_stages::proofs::Lemmas::Performed::passed_first, layout_gpos::proofs::Lemmas::Passed::passed_closed, buffer_stages::proofs::Lemmas::Performed::passed_unrefused, buffer_stages::proofs::Lemmas::Performed::passed_numbers))]
 fn apply_contexts(
     table: &PositioningTable,
     depth: u32,
-    subtables: &[Digested<ContextSubtable>],
+    subtables: &Subtables<ContextSubtable>,
     ctx: &hb_ot_apply_context_t,
     last: &mut LastSearches,
     buffer: &mut hb_buffer_t,
@@ -153,12 +162,20 @@ fn apply_contexts(
     ensures kept { OnOk result (AreKept (apply_context_of ctx.now) (items_of buffer.new) last.new) }
     ensures memory { IfErr result (λ e. e ≢ ShapeCause.OutOfMemory) }
 {
-    for subtable in subtables {
+    let count = context_count(subtables);
+    let beside = known_neighbours(subtables, ctx, buffer);
+    let mut k = 0;
+    while k < count {
+        let next = next_context(subtables, &beside, k, buffer);
+        let Some(subtable) = subtables.get(next) else {
+            return Ok(false);
+        };
         match apply_context(table, depth, subtable, ctx, last, buffer) {
             Ok(false) => {}
             Ok(true) => return Ok(true),
             Err(cause) => return Err(cause),
         }
+        k = next + 1;
     }
     Ok(false)
 }

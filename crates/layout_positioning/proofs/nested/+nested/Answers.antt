@@ -18,6 +18,7 @@ use Rattle.layout_contexts.specs.Rules.{chains_of, is_tried_at}
 use Rattle.layout_contexts.proofs.Lemmas.Acting.{match_inside, rule_acted, rule_failed, rule_passed}
 use Rattle.layout_contexts.proofs.Lemmas.Following.{passed_over}
 use Rattle.layout_contexts.proofs.Lemmas.Inside.{then_stays}
+use Rattle.layout_contexts.proofs.Lemmas.LeftOut.{is_there, jumped_over, jumped_over_all, same_neighbours}
 use Rattle.layout_contexts.proofs.Lemmas.Ranges.{passed_after, passed_before}
 use Rattle.layout_contexts.proofs.Lemmas.Uncovered.{context_uncovered}
 use Rattle.layout_match.proofs.Lemmas.Met.{not_tried as glyph_not_tried}
@@ -52,27 +53,74 @@ apply_context-returns-clause-performs t c =
     let P : ContextSubtable → Type 0 = λ s. Performs (first_rule (chain_rule nest a) (chains_of s) (cut_with c.args.ctx.now.random_state c.args.buffer.now)) c.apply_rules.result c.args.ctx.now.random_state c.args.ctx.now.random_state c.args.buffer.now c.apply_rules.new.buffer in
     tried_there nest a c.args.subtable.now c.is_tried_at.result c.args.ctx.now.random_state c.args.ctx.now.random_state c.apply_rules.result c.args.buffer.now c.apply_rules.new.buffer c.cur-info.result.now c.cur-info.ensures tried c.if-not-is_tried_at.false (subst P c.inner-2.ensures c.apply_rules.ensures.performs)
 
+pub apply_contexts-returns-in_default-clause-performs : goal.apply_contexts-returns-in_default-clause-performs
+apply_contexts-returns-in_default-clause-performs t c =
+    let i = c.loop-k.invariant.passed in
+    let a = apply_context_of c.args.ctx.now in
+    let q = c.args.ctx.now.random_state in
+    let n = c.next_context-next.result in
+    let s = c.args.buffer.now in
+    let nest = nested_actions c.args.table.now.lookups c.args.depth s.direction a in
+    let over = c.next_context-next.ensures.passed nest a q (same_neighbours c.known_neighbours-beside.result.before c.known_neighbours-beside.result.after a s c.loop-k.buffer i.cut_is i.still c.known_neighbours-beside.ensures) in
+    jumped_over_all (context_subtable nest a) c.args.subtables.now q q c.loop-k.k n s c.loop-k.buffer over c.next_context-next.ensures.on i c.in_default.ensures refl
+
 pub apply_contexts-returns-in-Ok-true-clause-performs : goal.apply_contexts-returns-in-Ok-true-clause-performs
 apply_contexts-returns-in-Ok-true-clause-performs t c =
-    let i = c.loop-subtable.invariant.passed in
-    let act : ContextSubtable → Direction → Action = λ x d. context_subtable (nested_actions c.args.table.now.lookups c.args.depth d (apply_context_of c.args.ctx.now)) (apply_context_of c.args.ctx.now) x in
-    first_acts act c.args.subtables.now c.loop-subtable.subtable-index c.subtable-item.result c.loop-subtable.buffer.direction c.args.buffer.now.direction c.args.ctx.now.random_state c.args.ctx.now.random_state c.args.ctx.now.random_state c.in-Ok-true.field-0 c.args.buffer.now c.loop-subtable.buffer c.apply_context.new.buffer c.loop-subtable-test.true c.subtable-item.is i (still_direction c.args.buffer.now c.loop-subtable.buffer i.still) refl c.in-Ok-true.field-0-test c.in-Ok-true.ensures.performs
+    let i = c.loop-k.invariant.passed in
+    let a = apply_context_of c.args.ctx.now in
+    let q = c.args.ctx.now.random_state in
+    let n = c.next_context-next.result in
+    let s = c.args.buffer.now in
+    let nest = nested_actions c.args.table.now.lookups c.args.depth s.direction a in
+    let over = c.next_context-next.ensures.passed nest a q (same_neighbours c.known_neighbours-beside.result.before c.known_neighbours-beside.result.after a s c.loop-k.buffer i.cut_is i.still c.known_neighbours-beside.ensures) in
+    let act : ContextSubtable → Direction → Action = λ x d. context_subtable (nested_actions c.args.table.now.lookups c.args.depth d a) a x in
+    let there = is_there c.args.subtables.now n c.in-Some.subtable.now (sym c.in-Some.ensures) in
+    let passed = jumped_over (context_subtable nest a) c.args.subtables.now q c.loop-k.k n s c.loop-k.buffer over c.next_context-next.ensures.on i in
+    first_acts act c.args.subtables.now n c.in-Some.subtable.now c.loop-k.buffer.direction s.direction q q q c.in-Ok-true.field-0 s c.loop-k.buffer c.apply_context.new.buffer there.0 there.1 passed (still_direction s c.loop-k.buffer i.still) refl c.in-Ok-true.field-0-test c.in-Ok-true.ensures.performs
 
 pub apply_contexts-returns-in-Err-clause-performs : goal.apply_contexts-returns-in-Err-clause-performs
 apply_contexts-returns-in-Err-clause-performs t c =
-    let i = c.loop-subtable.invariant.passed in
-    let act : ContextSubtable → Direction → Action = λ x d. context_subtable (nested_actions c.args.table.now.lookups c.args.depth d (apply_context_of c.args.ctx.now)) (apply_context_of c.args.ctx.now) x in
-    first_refuses act c.args.subtables.now c.loop-subtable.subtable-index c.subtable-item.result c.loop-subtable.buffer.direction c.args.buffer.now.direction c.args.ctx.now.random_state c.args.ctx.now.random_state c.args.ctx.now.random_state c.in-Err.cause c.args.buffer.now c.loop-subtable.buffer c.apply_context.new.buffer c.loop-subtable-test.true c.subtable-item.is i (still_direction c.args.buffer.now c.loop-subtable.buffer i.still) refl c.in-Err.ensures.performs
+    let i = c.loop-k.invariant.passed in
+    let a = apply_context_of c.args.ctx.now in
+    let q = c.args.ctx.now.random_state in
+    let n = c.next_context-next.result in
+    let s = c.args.buffer.now in
+    let nest = nested_actions c.args.table.now.lookups c.args.depth s.direction a in
+    let over = c.next_context-next.ensures.passed nest a q (same_neighbours c.known_neighbours-beside.result.before c.known_neighbours-beside.result.after a s c.loop-k.buffer i.cut_is i.still c.known_neighbours-beside.ensures) in
+    let act : ContextSubtable → Direction → Action = λ x d. context_subtable (nested_actions c.args.table.now.lookups c.args.depth d a) a x in
+    let there = is_there c.args.subtables.now n c.in-Some.subtable.now (sym c.in-Some.ensures) in
+    let passed = jumped_over (context_subtable nest a) c.args.subtables.now q c.loop-k.k n s c.loop-k.buffer over c.next_context-next.ensures.on i in
+    first_refuses act c.args.subtables.now n c.in-Some.subtable.now c.loop-k.buffer.direction s.direction q q q c.in-Err.cause s c.loop-k.buffer c.apply_context.new.buffer there.0 there.1 passed (still_direction s c.loop-k.buffer i.still) refl c.in-Err.ensures.performs
 
-pub apply_contexts-loop-subtable-preserved : goal.apply_contexts-loop-subtable-preserved
-apply_contexts-loop-subtable-preserved t c =
-    let i = c.loop-subtable.invariant.passed in
-    let act : ContextSubtable → Direction → Action = λ x d. context_subtable (nested_actions c.args.table.now.lookups c.args.depth d (apply_context_of c.args.ctx.now)) (apply_context_of c.args.ctx.now) x in
-    record { passed = (first_passes act c.args.subtables.now c.loop-subtable.subtable-index c.subtable-item.result c.loop-subtable.buffer.direction c.args.buffer.now.direction c.args.ctx.now.random_state c.args.ctx.now.random_state c.args.ctx.now.random_state c.in-Ok-false.field-0 c.args.buffer.now c.loop-subtable.buffer c.apply_context.new.buffer c.loop-subtable-test.true c.subtable-item.is i (still_direction c.args.buffer.now c.loop-subtable.buffer i.still) refl c.in-Ok-false.field-0-test c.in-Ok-false.ensures.performs).0; kept = c.in-Ok-false.ensures.kept }
+pub apply_contexts-overflow_add-k : goal.apply_contexts-overflow_add-k
+apply_contexts-overflow_add-k t c =
+    let there = is_there c.args.subtables.now c.next_context-next.result c.in-Some.subtable.now (sym c.in-Some.ensures) in
+    let less = there.0 in
+    let count = c.context_count-count.ensures in
+    let fits = c.context_count-count.auto in
+    omega (arith, less, count, fits)
+
+pub apply_contexts-loop-k-preserved : goal.apply_contexts-loop-k-preserved
+apply_contexts-loop-k-preserved t c =
+    let i = c.loop-k.invariant.passed in
+    let a = apply_context_of c.args.ctx.now in
+    let q = c.args.ctx.now.random_state in
+    let n = c.next_context-next.result in
+    let s = c.args.buffer.now in
+    let nest = nested_actions c.args.table.now.lookups c.args.depth s.direction a in
+    let over = c.next_context-next.ensures.passed nest a q (same_neighbours c.known_neighbours-beside.result.before c.known_neighbours-beside.result.after a s c.loop-k.buffer i.cut_is i.still c.known_neighbours-beside.ensures) in
+    let act : ContextSubtable → Direction → Action = λ x d. context_subtable (nested_actions c.args.table.now.lookups c.args.depth d a) a x in
+    let there = is_there c.args.subtables.now n c.in-Some.subtable.now (sym c.in-Some.ensures) in
+    let passed = jumped_over (context_subtable nest a) c.args.subtables.now q c.loop-k.k n s c.loop-k.buffer over c.next_context-next.ensures.on i in
+    let p = first_passes act c.args.subtables.now n c.in-Some.subtable.now c.loop-k.buffer.direction s.direction q q q c.in-Ok-false.field-0 s c.loop-k.buffer c.apply_context.new.buffer there.0 there.1 passed (still_direction s c.loop-k.buffer i.still) refl c.in-Ok-false.field-0-test c.in-Ok-false.ensures.performs in
+    record { passed = p.0; kept = c.in-Ok-false.ensures.kept }
 
 pub apply_contexts-returns-clause-performs : goal.apply_contexts-returns-clause-performs
 apply_contexts-returns-clause-performs t c =
-    passed_all (context_subtable (nested_actions c.args.table.now.lookups c.args.depth c.args.buffer.now.direction (apply_context_of c.args.ctx.now)) (apply_context_of c.args.ctx.now)) c.args.subtables.now c.loop-subtable.subtable-index c.args.ctx.now.random_state c.args.buffer.now c.loop-subtable.buffer c.loop-subtable-test.false c.loop-subtable.invariant.passed
+    let a = apply_context_of c.args.ctx.now in
+    let count = c.context_count-count.ensures in
+    let past = c.loop-k-test.false in
+    passed_all (context_subtable (nested_actions c.args.table.now.lookups c.args.depth c.args.buffer.now.direction a) a) c.args.subtables.now c.loop-k.k c.args.ctx.now.random_state c.args.buffer.now c.loop-k.buffer (omega (arith, count, past)) c.loop-k.invariant.passed
 
 pub apply_rules-loop-i-init : goal.apply_rules-loop-i-init
 apply_rules-loop-i-init t c =

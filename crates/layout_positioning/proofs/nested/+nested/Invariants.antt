@@ -37,11 +37,14 @@ abbrev pub decreases-apply_records : goal.decreases-apply_records
 decreases-apply_records l = 8 * l.depth
 
 -- none so far acted
-abbrev pub invariant-apply_contexts-loop-subtable : goal.invariant-apply_contexts-loop-subtable
-invariant-apply_contexts-loop-subtable l = record {
-  passed : ArePassed (context_subtable (nested_actions l.table.lookups l.depth l.fn.buffer.direction (apply_context_of l.ctx)) (apply_context_of l.ctx)) l.subtables (drop l.subtable-index l.subtables) l.ctx.random_state l.fn.buffer l.buffer;
+abbrev pub invariant-apply_contexts-loop-k : goal.invariant-apply_contexts-loop-k
+invariant-apply_contexts-loop-k l = record {
+  passed : ArePassed (context_subtable (nested_actions l.table.lookups l.depth l.fn.buffer.direction (apply_context_of l.ctx)) (apply_context_of l.ctx)) l.subtables (drop l.k l.subtables) l.ctx.random_state l.fn.buffer l.buffer;
   kept : AreKept (apply_context_of l.ctx) (items_of l.buffer) l.last;
 }
+
+abbrev pub decreases-apply_contexts-loop-k : goal.decreases-apply_contexts-loop-k
+decreases-apply_contexts-loop-k l = length l.subtables - l.k
 
 abbrev pub invariant-apply_rules-loop-i : goal.invariant-apply_rules-loop-i
 invariant-apply_rules-loop-i l = record {
