@@ -25,8 +25,8 @@ use buffer_glyphs::cause::ShapeCause;
 use layout_common::digested::Digested;
 use layout_common::subtables::Subtables;
 use layout_contexts::{
-    ChainRule, begin_record, fails_unflagged, glyph_count, is_tried_at, known_neighbours, match_chain,
-    may_follow, move_to_match_end, next_context, rule_at, rules_at, settle_match,
+    ChainRule, begin_record, fails_unflagged, glyph_count, is_tried_at, known_neighbours,
+    match_chain, may_follow, move_to_match_end, next_context, rule_at, rules_at, settle_match,
 };
 use layout_face::substitution::{SubstitutionSubtables, SubstitutionTable};
 use layout_gsub::apply::apply_first;
