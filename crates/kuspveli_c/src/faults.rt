@@ -1,8 +1,9 @@
 //! The call that describes why a font of a font file isn't read, as `include/kuspveli.h` declares it.
-ghost use Rattle.std.specs.Prelude.{◌≡◌, List, codes};
+ghost use Rattle.std.specs.Prelude.{◌≡◌, ◌≢◌, [], Err, List, MatchOption, codes};
 ghost use Rattle.c_text.specs.Numbers.{parts_without};
 ghost use Rattle.font_bytes.specs.Fault.{message_of};
-ghost use Rattle.kuspveli_c.specs.Faults.{Describes, HasWritten, IsWritten};
+ghost use Rattle.font_file.specs.Face.{face_in};
+ghost use Rattle.kuspveli_c.specs.Faults.{Describes, HasWritten, IsWritten, fault_text};
 
 use c_text::numbers::parts_without;
 use c_text::written::write_front;
@@ -24,15 +25,27 @@ pub extern "C" fn kus_describe_fault(
 ) -> usize
     ensures { Describes (parts_without flags) bytes.now index text.old text.new result }
 {
+    let Some(fault) = fault_of(alloc, bytes, index, flags) else {
+        return 0;
+    };
+    match fault.cause {
+        TableFault::OutOfMemory => write_text("OutOfMemory", text),
+        _ => write_fault(alloc, fault, text),
+    }
+}
+
+/// Why the font with an index of a font file isn't read; none where it is.
+#[tactic(auto, using(crate::proofs::Told::read_without_fault))]
+fn fault_of(alloc: Global, bytes: &[u8], index: usize, flags: u32) -> Option<FontFault>
+    ensures { MatchOption result (fault_text (face_in (parts_without flags) bytes.now index) ≡ [])
+        (λ e. e.cause ≢ TableFault.OutOfMemory → face_in (parts_without flags) bytes.now index ≡ Err e) }
+{
     match read_font(alloc, bytes, index, parts_without(flags)) {
         Ok(face) => {
             drop(face);
-            0
+            None
         }
-        Err(fault) => match fault.cause {
-            TableFault::OutOfMemory => write_text("OutOfMemory", text),
-            _ => write_fault(alloc, fault, text),
-        },
+        Err(fault) => Some(fault),
     }
 }
 
