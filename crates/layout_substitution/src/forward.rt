@@ -10,9 +10,10 @@ ghost use Rattle.layout_substitution.specs.Lookups.{lookup_action};
 ghost use Rattle.layout_match.specs.Steps.{IsGivenUp, IsIdleRun, IsIdleRunTooLong, IsStep, MeetsGlyph};
 ghost use Rattle.layout_substitution.specs.Steps.{HasZeroPositions};
 
-use crate::lookup::apply_met;
+use crate::nested::apply_subtables;
 use buffer_core::buffer::hb_buffer_t;
 use buffer_glyphs::cause::ShapeCause;
+use layout_contexts::MAX_NESTING_LEVEL;
 use layout_face::substitution::{SubstLookup, SubstitutionTable};
 use layout_match::hb_ot_apply_context_t;
 use layout_match::lookup::run_to_met;
@@ -61,7 +62,8 @@ fn apply_next(
     ensures before { result ≡ Ok false → acted ≡ false }
     ensures unchanged { result ≡ Ok false → items_of buffer.new ≡ items_of buffer.old }
 {
-    if apply_met(table, lookup, ctx, buffer)? {
+    let subtables = lookup.subtables.inner();
+    if apply_subtables(table, MAX_NESTING_LEVEL, subtables, ctx, buffer)? {
         return Ok(true);
     }
     if !buffer.next_glyph()? {

@@ -1,7 +1,6 @@
 //! A GSUB lookup at the cursor (rustybuzz: `SubstLookup`).
 ghost use Rattle.std.specs.Prelude.{◌≡◌, ◌<◌};
 ghost use Rattle.layout_match.specs.Applied.{apply_context_of};
-ghost use Rattle.layout_match.specs.Steps.{MeetsGlyph};
 ghost use Rattle.buffer_stages.specs.Actions.{first_rule};
 ghost use Rattle.buffer_stages.specs.Buffers.{cut_of};
 ghost use Rattle.buffer_stages.specs.Performing.{Performs, PerformsWithoutOutput, cut_with};
@@ -38,30 +37,6 @@ pub fn apply_lookup(
     if !is_tried(ctx, &lookup.subtables, buffer) {
         return Ok(false);
     }
-    apply_subtables(
-        table,
-        MAX_NESTING_LEVEL,
-        lookup.subtables.inner(),
-        ctx,
-        buffer,
-    )
-}
-
-/// Applies the first matching subtable of a lookup at the cursor, to whose glyph the lookup applies. Its answer and its
-/// refusals are those of `apply_lookup`.
-pub(crate) fn apply_met(
-    table: &SubstitutionTable,
-    lookup: &SubstLookup,
-    ctx: &mut hb_ot_apply_context_t,
-    buffer: &mut hb_buffer_t,
-) -> Result<bool, ShapeCause>
-    requires at_glyph { IsAtGlyph buffer.old }
-    requires met { MeetsGlyph (apply_context_of ctx.old) 0 buffer.old }
-    ensures performs { Performs (lookup_action table.now.lookups (apply_context_of ctx.old) lookup.now
-        (cut_with ctx.old.random_state buffer.old)) result ctx.old.random_state ctx.new.random_state buffer.old
-        buffer.new }
-    ensures context { apply_context_of ctx.new ≡ apply_context_of ctx.old }
-{
     apply_subtables(
         table,
         MAX_NESTING_LEVEL,
