@@ -52,11 +52,11 @@ fn texts_become_buffers(rt: HostRuntime) -> Result<(), Fail> {
 }
 
 /// Whether a text that is passed by flags has characters, each with its cluster, between two others.
-fn has_characters(
+fn has_characters<'a>(
     alloc: Global,
     flags: u32,
-    bytes: &[u8],
-    around: &[u8],
+    bytes: &'a [u8],
+    around: &'a [u8],
     want: &[(u32, u32)],
 ) -> Result<bool, RunFault> {
     let mut text = text_of(bytes, &[]);
