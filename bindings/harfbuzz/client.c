@@ -1,38 +1,39 @@
 /* What a client's font functions and settings change. Kuspveli reads a font file alone, so all of it is added here to
  * what it shaped: advances, scale, origins of vertical text, glyphs of characters that the font lacks, invisible and
- * missing glyphs, and the slant of HarfBuzz.
- *
- * Offsets have sums of advances in them: a mark stands on its base, and a glyph of a cursive chain at the one before.
- * Where a client's advances are others than the font's (as hinted ones are), the text is shaped a second time in the
- * same font with other advances. What differs then tells of which advances each offset is a sum. */
+ * missing glyphs, and the slant of HarfBuzz. Where positions have sums of advances or of scaled values, as those of
+ * marks have, the text is shaped by a font in the client's units (sized.c). */
 #include <math.h>
 #include <stdlib.h>
 
 #include "instead.h"
 
-/* How many glyphs lie between a mark and its base at most. */
-#define MOST_BETWEEN 64
-
 /* ---- glyphs */
+
+static bool
+add_missing (call_t *call, size_t at, hb_codepoint_t glyph)
+{
+  if (!call->missing)
+    call->missing = calloc (call->num_characters, sizeof *call->missing);
+  if (call->missing)
+    call->missing[at] = glyph;
+  return call->missing;
+}
 
 reason_t
 find_client_glyphs (call_t *call)
 {
-  kus_font_t *font = call->own_font;
   for (size_t i = 0; i < call->num_characters; i++) {
-    character_t *character = &call->characters[i];
-    hb_codepoint_t theirs = 0;
+    hb_codepoint_t unicode = call->characters[i].character, theirs = 0;
     uint32_t own = 0;
-    bool is_theirs = hb_font_get_nominal_glyph (call->font, character->unicode, &theirs);
-    bool is_own = kus_font_get_nominal_glyph (font, character->unicode, &own);
+    bool is_theirs = hb_font_get_nominal_glyph (call->font, unicode, &theirs);
+    bool is_own = kus_font_get_nominal_glyph (call->own_font, unicode, &own);
     if (is_own && (!is_theirs || own != theirs))
       return OTHER_GLYPH;
-    if (!is_own && theirs) {
-      character->glyph = theirs; /* a client may give a glyph and say that there is none */
-      call->has_missing = true;
-    }
+    /* A client may give a glyph and say that there is none. */
+    if (!is_own && theirs && !add_missing (call, i, theirs))
+      return NO_MEMORY;
   }
-  return SHAPED;
+  return call->missing && !call->is_rising ? CLUSTERS_FALL : SHAPED;
 }
 
 /* Default_Ignorable_Code_Point (UCD, DerivedCoreProperties.txt) as hb_unicode_funcs_t::is_default_ignorable has it. */
@@ -90,10 +91,10 @@ replace_missing (call_t *call, run_t run)
     hb_glyph_info_t *info = &call->client_infos[is_backward ? run.end_glyph - 1 - (i - run.first_glyph) : i];
     if (info->codepoint)
       continue;
-    while (next < run.end && !call->characters[next].glyph)
+    while (next < run.end && !call->missing[next])
       next++;
     if (next < run.end) {
-      info->codepoint = call->characters[next++].glyph;
+      info->codepoint = call->missing[next++];
       is_replaced = true;
     }
   }
@@ -105,7 +106,7 @@ static bool
 has_default_ignorable (const call_t *call, run_t run)
 {
   for (size_t i = run.first; i < run.end; i++)
-    if (is_default_ignorable (call->characters[i].unicode))
+    if (is_default_ignorable (call->characters[i].character))
       return true;
   return false;
 }
@@ -131,7 +132,7 @@ fill_client_infos (call_t *call)
   hb_codepoint_t invisible = hb_buffer_get_invisible_glyph (call->buffer);
   hb_codepoint_t not_found = hb_buffer_get_not_found_glyph (call->buffer);
   uint32_t space;
-  if (invisible && !kus_font_get_nominal_glyph (call->own_font, ' ', &space))
+  if (invisible && (!call->is_rising || !kus_font_get_nominal_glyph (font_of_call (call), ' ', &space)))
     invisible = 0;
   for (size_t at = 0; at < call->count;) {
     run_t run = run_from (call, at);
@@ -139,11 +140,11 @@ fill_client_infos (call_t *call)
       call->client_infos[at] = (hb_glyph_info_t){
         .codepoint = call->infos[at].codepoint,
         .mask = call->infos[at].mask,
-        .cluster = call->characters[run.first].cluster,
+        .cluster = call->infos[at].cluster,
       };
-    if (call->has_missing || invisible)
+    if (call->missing || invisible)
       find_end (call, &run);
-    if (call->has_missing)
+    if (call->missing)
       replace_missing (call, run);
     if (invisible)
       replace_invisible (call, run, space, invisible);
@@ -159,36 +160,48 @@ typedef struct {
   int64_t x, y; /* 65536 times what a font unit is in the client's */
 } scale_t;
 
-static int64_t
-multiplier (int scale, unsigned int upem)
+units_t
+client_units (hb_font_t *font)
 {
-  int64_t whole = ((int64_t) (scale < 0 ? -(int64_t) scale : scale)) << 16;
-  return (scale < 0 ? -whole : whole) / (upem ? upem : 1);
+  units_t units = { .upem = hb_face_get_upem (hb_font_get_face (font)) };
+  hb_font_get_scale (font, &units.x_scale, &units.y_scale);
+  hb_font_get_ppem (font, &units.x_ppem, &units.y_ppem);
+  const int *coordinates = hb_font_get_var_coords_normalized (font, &units.num_coordinates);
+  unsigned int count = units.num_coordinates;
+  while (count && !coordinates[count - 1])
+    count--;
+  units.coordinates = coordinates;
+  units.num_coordinates = count;
+  return units;
+}
+
+bool
+lacks_space (const call_t *call)
+{
+  for (size_t i = 0; i < call->num_characters; i++) {
+    uint32_t unicode = call->characters[i].character, glyph;
+    bool is_space = unicode == 0x202F || unicode == 0x205F || unicode == 0x3000;
+    is_space |= 0x2000 <= unicode && unicode <= 0x200A;
+    if (is_space && !kus_font_get_nominal_glyph (call->own_font, unicode, &glyph))
+      return true;
+  }
+  return false;
+}
+
+bool
+is_instance (hb_font_t *font)
+{
+  return client_units (font).num_coordinates;
 }
 
 static scale_t
 scale_of (hb_font_t *font)
 {
-  int x, y;
-  unsigned int upem = hb_face_get_upem (hb_font_get_face (font));
-  hb_font_get_scale (font, &x, &y);
-  return (scale_t){ multiplier (x, upem), multiplier (y, upem) };
-}
-
-/* Rounds as hb_font_t::em_mult does. */
-static hb_position_t
-scaled (int64_t units, int64_t by)
-{
-  return (hb_position_t) ((units * by + 32768) >> 16);
+  units_t units = client_units (font);
+  return (scale_t){ multiplier (units.x_scale, units.upem), multiplier (units.y_scale, units.upem) };
 }
 
 /* ---- advances along a line, and offsets that depend on them */
-
-static bool
-is_near (hb_position_t left, hb_position_t right)
-{
-  return left - right <= 1 && right - left <= 1;
-}
 
 /* The table's advance of a glyph, in font units. */
 static int
@@ -197,105 +210,88 @@ advance_before (const call_t *call, size_t at)
   return table_advance (call->owner, call->infos[at].codepoint);
 }
 
-/* How an advance of the second shaping differs. */
-static int64_t
-difference (const call_t *call, size_t at)
+bool
+needs_units (const call_t *call)
 {
-  return (int64_t) call->traced[at].x_advance - call->positions[at].x_advance;
-}
-
-/* Whether a glyph has its own advance in its position: a mark's may be zeroed, and cursive attachment replaces it. */
-static bool
-has_own_advance (const call_t *call, size_t at)
-{
-  if (call->traced)
-    return difference (call, at);
-  return call->positions[at].x_advance || !advance_before (call, at);
-}
-
-/* Whether the client's advances are others than the font's, and offsets or cursive chains have them in their sums. */
-static bool
-has_other_advances (const call_t *call, const hb_position_t *advances, int64_t by)
-{
-  bool has_offsets = has_cursive (call->owner), is_other = false;
+  scale_t scale = scale_of (call->font);
+  if (scale.x <= 0 || !applies_gpos (call->owner, call->properties.script))
+    return false;
+  if (is_instance (call->font))
+    return true;
+  int64_t whole = multiplier (1, 1);
+  bool has_offsets = has_cursive (call->owner), is_other = scale.x != whole || scale.y != whole;
   for (size_t i = 0; i < call->count; i++) {
-    has_offsets |= call->positions[i].x_offset || !call->positions[i].x_advance; /* a mark, whatever its offset is */
-    if (call->positions[i].x_advance && call->client_infos[i].codepoint == call->infos[i].codepoint)
-      is_other |= !is_near (advances[i], scaled (advance_before (call, i), by));
+    const kus_glyph_position_t *own = &call->positions[i];
+    has_offsets |= own->x_offset || own->y_offset || !own->x_advance; /* a mark, whatever its offset is */
+    is_other |= call->advances[i] != advance_before (call, i);
   }
   return has_offsets && is_other;
 }
 
-/* The glyphs whose advances an offset has, without their end. In a line that runs forward an attached glyph goes back
- * over those from its base on; in one that runs backward, forth over those from itself on to its base. */
-static bool
-find_sum (const call_t *call, size_t at, bool is_backward, size_t *first, size_t *end)
+/* By how much the client's glyph in the place of a missing one is wider than that. */
+static hb_position_t
+difference (const call_t *call, size_t at)
 {
-  int64_t wanted = (int64_t) call->traced[at].x_offset - call->positions[at].x_offset, sum = 0;
-  *first = *end = at;
-  if (!wanted)
-    return true;
-  for (size_t step = 0; step < MOST_BETWEEN; step++) {
-    if (is_backward ? *end == call->count : !*first)
-      return false;
-    sum += is_backward ? difference (call, (*end)++) : -difference (call, --*first);
-    if (sum == wanted)
-      return true;
-  }
-  return false;
+  hb_codepoint_t glyph = call->client_infos[at].codepoint;
+  if (glyph == call->infos[at].codepoint)
+    return 0;
+  return hb_font_get_glyph_h_advance (call->font, glyph) - call->advances[at];
 }
 
-/* The offset of a glyph whose advances are the client's already. */
+/* A number of a position in the client's units. */
 static hb_position_t
-offset_of (const call_t *call, size_t at, int64_t by)
+whole (const call_t *call, int32_t low, int32_t high)
 {
-  bool is_backward = HB_DIRECTION_IS_BACKWARD (call->properties.direction);
-  int64_t own = call->positions[at].x_offset, theirs = 0;
-  size_t first, end;
-  if (!call->traced)
-    return scaled (own, by);
-  if (!find_sum (call, at, is_backward, &first, &end)) {
-    count_patch (UNTRACED_OFFSETS);
-    return scaled (own, by);
-  }
-  if (first < end)
-    count_patch (TRACED_OFFSETS);
-  for (size_t i = first; i < end; i++) {
-    own += is_backward ? -call->positions[i].x_advance : call->positions[i].x_advance;
-    theirs += is_backward ? call->client_positions[i].x_advance : -call->client_positions[i].x_advance;
-  }
-  return scaled (own, by) + (hb_position_t) theirs;
+  return (hb_position_t) coarser (units_of_sized (call->sized), call->higher ? joined (low, high) : low);
+}
+
+/* A glyph's position by a font in the client's units. */
+static void
+fill_sized_glyph (call_t *call, size_t at)
+{
+  static const kus_glyph_position_t none;
+  const kus_glyph_position_t *own = &call->positions[at], *high = call->higher ? &call->higher[at] : &none;
+  hb_glyph_position_t *to = &call->client_positions[at];
+  to->x_advance = whole (call, own->x_advance, high->x_advance);
+  to->y_advance = whole (call, own->y_advance, high->y_advance);
+  to->x_offset = whole (call, own->x_offset, high->x_offset);
+  to->y_offset = whole (call, own->y_offset, high->y_offset);
+  if (to->x_advance)
+    to->x_advance += difference (call, at);
+}
+
+/* The same by the font in its own units; whether the client's advance is another than the font's. */
+static bool
+fill_plain_glyph (call_t *call, scale_t scale, size_t at)
+{
+  const kus_glyph_position_t *own = &call->positions[at];
+  hb_glyph_position_t *to = &call->client_positions[at];
+  hb_position_t before = scaled (own->x_advance, scale.x);
+  to->x_advance = before;
+  to->y_advance = scaled (own->y_advance, scale.y);
+  to->x_offset = scaled (own->x_offset, scale.x);
+  to->y_offset = scaled (own->y_offset, scale.y);
+  if (!own->x_advance && advance_before (call, at))
+    return false; /* a mark's, which is zeroed */
+  to->x_advance = call->advances[at] + scaled (own->x_advance - advance_before (call, at), scale.x);
+  bool is_other = to->x_advance != before;
+  to->x_advance += difference (call, at);
+  return is_other;
 }
 
 static void
 fill_horizontal (call_t *call, scale_t scale)
 {
-  hb_position_t *advances = malloc ((call->count + 1) * sizeof *advances);
   bool is_other = false;
-  if (advances) {
-    hb_font_get_glyph_h_advances (call->font, (unsigned int) call->count, &call->client_infos->codepoint,
-                                  sizeof *call->client_infos, advances, sizeof *advances);
-    if (has_other_advances (call, advances, scale.x))
-      shape_traced (call);
-  }
-  for (size_t i = 0; i < call->count; i++) {
-    const kus_glyph_position_t *own = &call->positions[i];
-    hb_glyph_position_t *to = &call->client_positions[i];
-    to->x_advance = scaled (own->x_advance, scale.x);
-    to->y_advance = scaled (own->y_advance, scale.y);
-    if (!advances || !has_own_advance (call, i))
-      continue;
-    hb_position_t theirs = advances[i] + scaled (own->x_advance - advance_before (call, i), scale.x);
-    is_other |= theirs != to->x_advance;
-    to->x_advance = theirs;
-  }
-  for (size_t i = 0; i < call->count; i++) {
-    call->client_positions[i].x_offset = offset_of (call, i, scale.x);
-    call->client_positions[i].y_offset = scaled (call->positions[i].y_offset, scale.y);
-  }
+  for (size_t i = 0; i < call->count; i++)
+    if (call->sized)
+      fill_sized_glyph (call, i);
+    else
+      is_other |= fill_plain_glyph (call, scale, i);
+  if (call->sized)
+    count_patch (CLIENT_UNITS);
   if (is_other)
     count_patch (CLIENT_ADVANCES);
-  free (advances);
 }
 
 /* ---- vertical text */

@@ -5,8 +5,8 @@
 
 #include "instead.h"
 
-/* By how much sums of rounded values may differ from a rounded sum. */
-#define MOST_ROUNDING 2
+/* By how much a rounded number may differ from one that is rounded otherwise. */
+#define MOST_ROUNDING 1
 #define GLYPH_FLAGS 7
 #define MOST_GLYPHS 4096 /* bytes of a printed line of glyphs */
 

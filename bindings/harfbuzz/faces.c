@@ -18,12 +18,13 @@ typedef struct {
 struct face_font {
   pthread_mutex_t lock; /* for the two that follow; not held while a thread shapes */
   read_font_t read[NUM_KINDS];
-  handle_t *free; /* the handles that no thread uses */
+  handle_t *free; /* the handles that no thread uses, and fonts in clients' units */
+  sized_t *sized;
   /* Set before the face has it. */
   hb_blob_t *hmtx;
   const uint8_t *metrics; /* the data of hmtx */
   unsigned int num_metrics;
-  bool has_gpos, has_graphite, has_apple;
+  bool is_bare, has_gpos, has_graphite, has_apple;
   /* Set once, with the first font that is read. */
   bool is_known, has_hebrew, has_cursive;
 };
@@ -84,11 +85,9 @@ begin (void)
 
 /* ---- reading a font */
 
-static reason_t
-read_file (kus_font_t *font, hb_blob_t *file, unsigned int index, uint32_t flags)
+reason_t
+read_font_file (kus_font_t *font, const uint8_t *bytes, size_t length, unsigned int index, uint32_t flags)
 {
-  unsigned int length;
-  const uint8_t *bytes = (const uint8_t *) hb_blob_get_data (file, &length);
   if (!length)
     return NO_TABLES;
   if (!has_stack (STACK_OF_READING))
@@ -140,8 +139,10 @@ read_font (hb_face_t *face, face_font_t *owner, kind_t kind)
   if (owner->has_apple)
     to->fault = APPLE;
   else {
-    hb_blob_t *file = kind == TRACED ? traced_file_of (face, owner) : font_file_of (face, &index);
-    to->fault = read_file (&to->font, file, index, has_boxes ? 0 : KUS_FONT_WITHOUT_EXTENTS);
+    unsigned int length;
+    hb_blob_t *file = font_file_of (face, &index);
+    const uint8_t *bytes = (const uint8_t *) hb_blob_get_data (file, &length);
+    to->fault = read_font_file (&to->font, bytes, length, index, has_boxes ? 0 : KUS_FONT_WITHOUT_EXTENTS);
     hb_blob_destroy (file);
   }
   to->is_read = to->fault != SMALL_STACK; /* another thread may have a larger one */
@@ -165,6 +166,7 @@ free_face_font (void *data)
       kus_font_destroy (&handle->fonts[kind]);
     free (handle);
   }
+  free_all_sized (owner->sized);
   for (int kind = 0; kind < NUM_KINDS; kind++)
     kus_font_destroy (&owner->read[kind].font);
   hb_blob_destroy (owner->hmtx);
@@ -197,6 +199,7 @@ made_face_font (hb_face_t *face)
   owner->metrics = (const uint8_t *) hb_blob_get_data (owner->hmtx, &length);
   if (owner->num_metrics > length / HMTX_METRIC)
     owner->num_metrics = length / HMTX_METRIC;
+  owner->is_bare = !has_tables (face);
   owner->has_gpos = has_table (face, HB_OT_TAG_GPOS);
   owner->has_graphite = has_table (face, HB_TAG ('S', 'i', 'l', 'f'));
   owner->has_apple = has_table (face, HB_TAG ('m', 'o', 'r', 'x')) || has_table (face, HB_TAG ('k', 'e', 'r', 'x'));
@@ -258,7 +261,31 @@ open_font (hb_face_t *face, face_font_t *owner, handle_t *handle, kind_t kind)
   return fault;
 }
 
+void
+lock_fonts (face_font_t *owner)
+{
+  pthread_mutex_lock (&owner->lock);
+}
+
+void
+unlock_fonts (face_font_t *owner)
+{
+  pthread_mutex_unlock (&owner->lock);
+}
+
+sized_t **
+sized_of (face_font_t *owner)
+{
+  return &owner->sized;
+}
+
 /* ---- what a font has */
+
+bool
+is_bare (const face_font_t *owner)
+{
+  return owner->is_bare;
+}
 
 bool
 has_graphite (const face_font_t *owner)

@@ -47,7 +47,6 @@ typedef enum {
   INSTANCE,
   NO_SCALAR_VALUE,
   CLUSTERS_FALL,
-  CLUSTERS_SHARED,
   OTHER_GLYPH,
   SMALL_STACK,
   NO_MEMORY,
@@ -71,9 +70,8 @@ const context_t *context_of (hb_buffer_t *buffer);
 
 /* ---- the fonts of a face (faces.c) */
 
-/* A face's font is read as far as a text needs it: the boxes of outlines in CFF take most of the time. TRACED is the
- * font with other advances (client.c says what for). */
-typedef enum { WITHOUT_BOXES, WITH_BOXES, TRACED, NUM_KINDS } kind_t;
+/* A face's font is read as far as a text needs it: the boxes of outlines in CFF take most of the time. */
+typedef enum { WITHOUT_BOXES, WITH_BOXES, NUM_KINDS } kind_t;
 
 /* One thread's handles of a face's fonts, of which those are empty that it didn't need yet. */
 typedef struct handle {
@@ -97,6 +95,12 @@ void return_handle (face_font_t *owner, handle_t *handle);
 /* Has the handle have a font, which is read where it wasn't yet; or why it can't. */
 reason_t open_font (hb_face_t *face, face_font_t *owner, handle_t *handle, kind_t kind);
 
+/* Reads a font file; or why it can't. */
+reason_t read_font_file (kus_font_t *font, const uint8_t *bytes, size_t length, unsigned int index, uint32_t flags);
+
+/* Whether the face has no table that Kuspveli reads. */
+bool is_bare (const face_font_t *owner);
+
 /* Whether the font has rules of Graphite. */
 bool has_graphite (const face_font_t *owner);
 
@@ -112,6 +116,97 @@ bool has_cursive (const face_font_t *owner);
 /* Whether this thread's stack has so many bytes left. */
 bool has_stack (size_t needed);
 
+/* ---- a client's units (values.c) */
+
+/* A font's values have 16 bits. Where those in a client's units have more, two fonts have their lower and their higher
+ * bits: positions are sums of values, so those by the whole are the sums of those by both. */
+typedef enum { WHOLE, LOW, HIGH } fraction_t;
+
+/* The units of a client's font. 2^shift of the font that Kuspveli reads are one of them, so that an offset between two
+ * anchors is rounded once. */
+typedef struct {
+  int x_scale, y_scale, shift;
+  fraction_t fraction;
+  unsigned int upem, x_ppem, y_ppem;
+  const int *coordinates; /* of an instance of a variable font, normalized */
+  unsigned int num_coordinates;
+} units_t;
+
+int64_t fraction_of (fraction_t fraction, int64_t value);
+
+/* The whole of both. */
+int64_t joined (int64_t low, int64_t high);
+
+/* 65536 times what a font unit is in the client's, as libharfbuzz has it. */
+int64_t multiplier (int scale, unsigned int upem);
+
+/* Rounds as hb_font_t::em_mult does. */
+hb_position_t scaled (int64_t units, int64_t by);
+
+/* Positions of the client in the units of the font that Kuspveli reads, and back. */
+int64_t finer (const units_t *units, int64_t position);
+int64_t coarser (const units_t *units, int64_t position);
+
+/* What an instance adds to values (variations.c). */
+typedef struct variations variations_t;
+
+variations_t *new_variations (hb_face_t *face, const units_t *units);
+void free_variations (variations_t *variations);
+
+/* The sum for two indices of a device table, in font units. */
+float variation_of (const variations_t *variations, unsigned int outer, unsigned int inner);
+
+/* A copy of a face's GPOS or kern with its values in these units; NULL where they don't fit, or memory is short. */
+hb_blob_t *scaled_table (hb_face_t *face, hb_tag_t tag, const units_t *units);
+
+/* ---- fonts of what a client's functions answer (bare.c) */
+
+typedef struct bare bare_t;
+
+bare_t *new_bare (hb_font_t *font);
+void free_bare (bare_t *bare);
+
+/* These tell whether an answer is another one than before; false where one doesn't fit, or memory is short. */
+bool set_bare_characters (bare_t *bare, hb_font_t *font, const kus_character_t *characters, size_t count,
+                          bool *is_changed);
+bool set_bare_advances (bare_t *bare, const units_t *units, const kus_glyph_info_t *infos,
+                        const hb_position_t *advances, size_t count, bool *is_changed);
+void set_bare_boxes (bare_t *bare, hb_font_t *font, const units_t *units, const kus_glyph_info_t *infos, size_t count,
+                     bool *is_changed);
+
+bool has_boxes (const bare_t *bare);
+hb_blob_t *bare_file_of (const bare_t *bare, const units_t *units);
+
+/* ---- fonts in a client's units (sized.c) */
+
+typedef struct sized sized_t;
+typedef struct call call_t;
+
+/* A font of a face in a client's units, which is made where that is asked for; NULL where there is none. */
+sized_t *borrow_sized (hb_face_t *face, face_font_t *owner, const units_t *units, bool is_made);
+void return_sized (face_font_t *owner, sized_t *sized);
+void free_all_sized (sized_t *first);
+
+/* One of its fonts, which is read where its advances are others than when it was read; NULL where it can't be. */
+kus_font_t *open_sized (sized_t *sized, size_t at);
+const units_t *units_of_sized (const sized_t *sized);
+
+/* Whether it has a second font, of higher bits. */
+bool is_split (const sized_t *sized);
+
+/* The same of a face without tables, which has what the client answers for characters; and the boxes of glyphs. */
+sized_t *borrow_bare (call_t *call, const units_t *units);
+void set_boxes (sized_t *sized, const call_t *call);
+
+/* Gives glyphs the client's advances; false where one doesn't fit. The font is stale where they are other ones. */
+bool set_advances (sized_t *sized, const kus_glyph_info_t *glyphs, const hb_position_t *advances, size_t count);
+bool is_stale (const sized_t *sized);
+
+/* The fonts that no thread uses (faces.c has the lock for them). */
+sized_t **sized_of (face_font_t *owner);
+void lock_fonts (face_font_t *owner);
+void unlock_fonts (face_font_t *owner);
+
 /* ---- font files (sfnt.c) */
 
 #define HHEA_METRICS 34 /* where numberOfHMetrics begins */
@@ -120,19 +215,24 @@ bool has_stack (size_t needed);
 /* The font file of a face: that which the face was made of, else one of the tables that it hands out. */
 hb_blob_t *font_file_of (hb_face_t *face, unsigned int *index);
 
-/* A font file of a face's tables in which `hmtx` has another advance for each glyph. */
-hb_blob_t *traced_file_of (hb_face_t *face, const face_font_t *owner);
+bool has_tables (hb_face_t *face);
+
+/* A font file of a face's tables in a client's units, without outlines, with the advances of hmtx; NULL where it can't
+ * be. */
+hb_blob_t *sized_file_of (hb_face_t *face, const face_font_t *owner, const units_t *units);
+
+/* The font file of a face that was built, which is freed. */
+hb_blob_t *file_of_built (hb_face_t *built);
+
+/* head.unitsPerEm of a font in a client's units. */
+unsigned int sized_em (const units_t *units);
+
+/* Where hmtx begins in a font file. */
+size_t metrics_in (const uint8_t *bytes, size_t length);
 
 /* ---- a call (shape.c) */
 
-typedef struct {
-  hb_codepoint_t unicode;
-  uint32_t cluster;     /* the client's */
-  uint32_t start;       /* its first byte in Kuspveli's text */
-  hb_codepoint_t glyph; /* the client's glyph for a character of which the font has none; 0 where that is none either */
-} character_t;
-
-typedef struct {
+struct call {
   hb_font_t *font;
   hb_face_t *face;
   hb_buffer_t *buffer;
@@ -140,32 +240,46 @@ typedef struct {
   face_font_t *owner;
   handle_t *handle;
   kus_font_t *own_font;
-  character_t *characters; /* one more than there are, for the end */
+  kus_character_t *characters;
   size_t num_characters;
-  bool has_missing; /* a character has a `glyph` */
+  bool is_rising;          /* no cluster is less than the one before */
+  hb_codepoint_t *missing; /* of each character the client's glyph where the font has none; NULL where there is none */
   kus_text_t text;
-  /* In font units; `traced` is NULL where the text wasn't shaped by that font. */
+  /* The font by which the text was shaped, where that is in the client's units; NULL where it is in font units. */
+  sized_t *sized;
   kus_glyph_info_t *infos;
-  kus_glyph_position_t *positions, *traced;
+  kus_glyph_position_t *positions, *higher; /* the latter by the second font of `sized` */
   size_t room, count;
+  hb_position_t *advances; /* the client's of each glyph in a horizontal line */
   /* What the client is given, in its units. */
   hb_glyph_info_t *client_infos;
   hb_glyph_position_t *client_positions;
-} call_t;
+};
 
 reason_t shape_instead (hb_font_t *font, hb_buffer_t *buffer, const hb_feature_t *features, unsigned int num_features,
                         bool by_graphite);
 
-/* Shapes the text by the font with other advances: true where it gives the same glyphs. */
-bool shape_traced (call_t *call);
+/* The font by which the text is shaped; NULL where it can't be read. */
+kus_font_t *font_of_call (const call_t *call);
 
-/* The index of the character that begins at a byte of Kuspveli's text. */
-size_t character_at (const call_t *call, uint32_t start);
+/* The index of the first character of a cluster or of a greater one, where clusters rise. */
+size_t character_at (const call_t *call, uint32_t cluster);
 
 /* ---- what the client's font functions and settings change (client.c) */
 
 /* Before shaping: the client's glyph for each character of which the font has none. */
 reason_t find_client_glyphs (call_t *call);
+
+units_t client_units (hb_font_t *font);
+
+/* Whether the font is an instance of a variable font away from its default. */
+bool is_instance (hb_font_t *font);
+
+/* Whether the text has a space that the font lacks: its width is a part of an em, which the units may not fit. */
+bool lacks_space (const call_t *call);
+
+/* After shaping in font units: whether the client's units or advances are others, and positions have sums of them. */
+bool needs_units (const call_t *call);
 
 /* After shaping: glyphs and positions for the client. */
 void fill_client_infos (call_t *call);
@@ -175,9 +289,8 @@ void fill_client_positions (call_t *call);
 
 typedef enum {
   CLIENT_ADVANCES,
+  CLIENT_UNITS,
   CLIENT_ORIGINS,
-  TRACED_OFFSETS,
-  UNTRACED_OFFSETS,
   MISSING_GLYPHS,
   INVISIBLE_GLYPHS,
   SLANTED,

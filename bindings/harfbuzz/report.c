@@ -25,7 +25,6 @@ static const char *const reason_names[OF_FONT] = {
   [INSTANCE] = "the font is an instance of a variable font",
   [NO_SCALAR_VALUE] = "a character is no Unicode scalar value",
   [CLUSTERS_FALL] = "clusters fall",
-  [CLUSTERS_SHARED] = "characters share a cluster",
   [OTHER_GLYPH] = "the client has another glyph for a character than the font",
   [SMALL_STACK] = "the thread's stack is too small",
   [NO_MEMORY] = "memory is short",
@@ -33,16 +32,15 @@ static const char *const reason_names[OF_FONT] = {
 
 static const char *const patch_names[NUM_PATCHES] = {
   [CLIENT_ADVANCES] = "texts with the client's advances",
+  [CLIENT_UNITS] = "texts in the client's units",
   [CLIENT_ORIGINS] = "vertical texts with the client's origins",
-  [TRACED_OFFSETS] = "offsets over the client's advances",
-  [UNTRACED_OFFSETS] = "offsets that could not be traced to advances",
   [MISSING_GLYPHS] = "clusters with the client's glyphs for missing characters",
   [INVISIBLE_GLYPHS] = "glyphs made invisible",
   [SLANTED] = "slanted texts",
 };
 
 static const char *const difference_names[NUM_DIFFERENCES] = {
-  [EQUAL] = "equal",         [NEAR] = "within 2 units", [FLAGS] = "flags",
+  [EQUAL] = "equal",         [NEAR] = "within 1 unit", [FLAGS] = "flags",
   [CLUSTERS] = "clusters", [POSITIONS] = "positions", [GLYPHS] = "glyphs",
 };
 

@@ -1,4 +1,4 @@
-/* A buffer shaped by Kuspveli: its characters as UTF-8, and the glyphs back with the client's clusters. */
+/* A buffer shaped by Kuspveli: its characters with their clusters, and the glyphs back. */
 #include <stdlib.h>
 #include <string.h>
 
@@ -13,8 +13,6 @@
    | KUS_FLAG_DO_NOT_INSERT_DOTTED_CIRCLE | KUS_FLAG_PRODUCE_UNSAFE_TO_CONCAT                                          \
    | KUS_FLAG_PRODUCE_SAFE_TO_INSERT_TATWEEL)
 
-#define MOST_BYTES 4 /* of a character in UTF-8 */
-
 /* ---- the text */
 
 static bool
@@ -23,66 +21,22 @@ is_scalar_value (hb_codepoint_t unicode)
   return unicode < 0xD800 || (unicode >= 0xE000 && unicode < 0x110000);
 }
 
-static size_t
-put_utf8 (uint8_t *to, hb_codepoint_t unicode)
-{
-  size_t length = unicode < 0x80 ? 1 : unicode < 0x800 ? 2 : unicode < 0x10000 ? 3 : 4;
-  static const uint8_t leads[] = { 0, 0, 0xC0, 0xE0, 0xF0 };
-  for (size_t i = length; i-- > 1; unicode >>= 6)
-    to[i] = (uint8_t) (0x80 | (unicode & 0x3F));
-  to[0] = (uint8_t) (leads[length] | unicode);
-  return length;
-}
-
-/* Whether clusters are merged at the buffer's level. Kuspveli, in whose text each character has a cluster, would then
- * merge a part of those that share the client's. */
-static bool
-merges (hb_buffer_t *buffer)
-{
-  return hb_buffer_get_cluster_level (buffer) <= HB_BUFFER_CLUSTER_LEVEL_MONOTONE_CHARACTERS;
-}
-
-/* Reads the buffer's characters, and writes them as UTF-8; the length of that is at `length`. */
+/* Reads the buffer's characters. */
 static reason_t
-read_characters (call_t *call, const hb_glyph_info_t *infos, uint8_t *utf8, size_t *length)
+read_characters (call_t *call, const hb_glyph_info_t *infos)
 {
-  bool is_merging = merges (call->buffer);
-  uint32_t at = 0;
+  call->is_rising = true;
   for (size_t i = 0; i < call->num_characters; i++) {
-    hb_codepoint_t unicode = infos[i].codepoint;
-    if (!is_scalar_value (unicode))
+    if (!is_scalar_value (infos[i].codepoint))
       return NO_SCALAR_VALUE;
-    if (i && infos[i].cluster < infos[i - 1].cluster)
-      return CLUSTERS_FALL;
-    if (i && is_merging && infos[i].cluster == infos[i - 1].cluster)
-      return CLUSTERS_SHARED;
-    call->characters[i] = (character_t){ unicode, infos[i].cluster, at, 0 };
-    at += (uint32_t) put_utf8 (utf8 + at, unicode);
+    call->is_rising &= !i || infos[i].cluster >= infos[i - 1].cluster;
+    call->characters[i] = (kus_character_t){ infos[i].codepoint, infos[i].cluster };
   }
-  call->characters[call->num_characters] = (character_t){ 0, UINT32_MAX, at, 0 };
-  *length = at;
   return SHAPED;
 }
 
 size_t
-character_at (const call_t *call, uint32_t start)
-{
-  size_t low = 0, high = call->num_characters;
-  if (call->text.text_length == call->num_characters)
-    return start < high ? start : high; /* each character is one byte */
-  while (low < high) {
-    size_t middle = (low + high) / 2;
-    if (call->characters[middle].start < start)
-      low = middle + 1;
-    else
-      high = middle;
-  }
-  return low;
-}
-
-/* Where the characters of a cluster or of a greater one begin. */
-static uint32_t
-start_of_cluster (const call_t *call, uint32_t cluster)
+character_at (const call_t *call, uint32_t cluster)
 {
   size_t low = 0, high = call->num_characters;
   while (low < high) {
@@ -92,19 +46,14 @@ start_of_cluster (const call_t *call, uint32_t cluster)
     else
       high = middle;
   }
-  return call->characters[low].start;
+  return low;
 }
 
 static void
 set_features (call_t *call, kus_feature_t *to, const hb_feature_t *features, unsigned int count)
 {
-  for (unsigned int i = 0; i < count; i++) {
+  for (unsigned int i = 0; i < count; i++)
     to[i] = (kus_feature_t){ features[i].tag, features[i].value, features[i].start, features[i].end };
-    if (features[i].start != HB_FEATURE_GLOBAL_START)
-      to[i].start = start_of_cluster (call, features[i].start);
-    if (features[i].end != HB_FEATURE_GLOBAL_END)
-      to[i].end = start_of_cluster (call, features[i].end);
-  }
   if (count) {
     call->text.features = to;
     call->text.num_features = count;
@@ -113,7 +62,7 @@ set_features (call_t *call, kus_feature_t *to, const hb_feature_t *features, uns
 
 /* The texts around the buffer's, in the order of reading. */
 typedef struct {
-  uint8_t before[MOST_BYTES * CONTEXT_LENGTH], after[MOST_BYTES * CONTEXT_LENGTH];
+  uint32_t before[CONTEXT_LENGTH], after[CONTEXT_LENGTH];
 } around_t;
 
 static void
@@ -125,14 +74,14 @@ set_context (call_t *call, around_t *around)
   size_t before = 0, after = 0;
   for (unsigned int i = context->num_before; i--;)
     if (is_scalar_value (context->before[i]))
-      before += put_utf8 (around->before + before, context->before[i]);
+      around->before[before++] = context->before[i];
   for (unsigned int i = 0; i < context->num_after; i++)
     if (is_scalar_value (context->after[i]))
-      after += put_utf8 (around->after + after, context->after[i]);
-  call->text.before = around->before;
-  call->text.before_length = before;
-  call->text.after = around->after;
-  call->text.after_length = after;
+      around->after[after++] = context->after[i];
+  call->text.before = (const uint8_t *) around->before;
+  call->text.before_length = before * sizeof *around->before;
+  call->text.after = (const uint8_t *) around->after;
+  call->text.after_length = after * sizeof *around->after;
 }
 
 static void
@@ -146,7 +95,7 @@ set_properties (call_t *call)
   call->text.direction = call->properties.direction;
   /* A script that isn't set is not to be guessed. */
   call->text.script = call->properties.script ? (uint32_t) call->properties.script : HB_SCRIPT_UNKNOWN;
-  call->text.flags = hb_buffer_get_flags (call->buffer) & KNOWN_FLAGS;
+  call->text.flags |= hb_buffer_get_flags (call->buffer) & KNOWN_FLAGS;
   call->text.cluster_level = hb_buffer_get_cluster_level (call->buffer);
 }
 
@@ -167,47 +116,156 @@ make_room (call_t *call, size_t room)
   return true;
 }
 
-static reason_t
-shape_text (call_t *call)
+kus_font_t *
+font_of_call (const call_t *call)
 {
-  if (!has_stack (STACK_OF_SHAPING))
-    return SMALL_STACK;
+  return call->sized ? open_sized (call->sized, 0) : call->own_font;
+}
+
+static reason_t
+reason_of (kus_status_t status)
+{
+  return status == KUS_OK ? SHAPED : status == KUS_OUT_OF_MEMORY ? NO_MEMORY : OF_TEXT + status;
+}
+
+static reason_t
+shape_by (call_t *call, kus_font_t *font)
+{
   /* Few texts have more glyphs; those are read again. */
-  if (!make_room (call, 2 * call->num_characters + 16))
+  if (!call->room && !make_room (call, 2 * call->num_characters + 16))
     return NO_MEMORY;
-  kus_font_t *font = call->own_font;
   kus_status_t status
       = kus_shape (font, &call->text, call->infos, call->room, call->positions, call->room, &call->count);
-  if (status != KUS_OK)
-    return status == KUS_OUT_OF_MEMORY ? NO_MEMORY : OF_TEXT + status;
-  if (call->count <= call->room)
-    return SHAPED;
+  if (status != KUS_OK || call->count <= call->room)
+    return reason_of (status);
   if (!make_room (call, call->count))
     return NO_MEMORY;
   kus_get_glyphs (font, call->infos, call->room, call->positions, call->room);
   return SHAPED;
 }
 
-bool
-shape_traced (call_t *call)
+/* Shapes by the font of higher bits, which has the same glyphs. */
+static reason_t
+shape_higher (call_t *call)
 {
   size_t count;
-  kus_font_t *font = &call->handle->fonts[TRACED];
-  if (open_font (call->face, call->owner, call->handle, TRACED) != SHAPED)
-    return false;
-  kus_glyph_info_t *infos = malloc (call->count * sizeof *infos);
-  kus_glyph_position_t *positions = malloc (call->count * sizeof *positions);
-  bool is_same = infos && positions
-                 && kus_shape (font, &call->text, infos, call->count, positions, call->count, &count) == KUS_OK
-                 && count == call->count;
-  for (size_t i = 0; is_same && i < count; i++)
-    is_same = infos[i].codepoint == call->infos[i].codepoint && infos[i].cluster == call->infos[i].cluster;
+  kus_font_t *font = open_sized (call->sized, 1);
+  kus_glyph_info_t *infos = malloc ((call->count + 1) * sizeof *infos);
+  free (call->higher);
+  call->higher = malloc ((call->count + 1) * sizeof *call->higher);
+  reason_t reason = font && infos && call->higher ? SHAPED : NO_MEMORY;
+  if (reason == SHAPED)
+    reason = reason_of (kus_shape (font, &call->text, infos, call->count, call->higher, call->count, &count));
+  if (reason == SHAPED && count != call->count)
+    reason = NO_MEMORY;
   free (infos);
-  if (is_same)
-    call->traced = positions;
-  else
-    free (positions);
-  return is_same;
+  return reason;
+}
+
+static reason_t
+shape_text (call_t *call)
+{
+  if (!has_stack (STACK_OF_SHAPING))
+    return SMALL_STACK;
+  kus_font_t *font = font_of_call (call);
+  if (!font)
+    return SMALL_STACK;
+  reason_t reason = shape_by (call, font);
+  return reason == SHAPED && call->sized && is_split (call->sized) ? shape_higher (call) : reason;
+}
+
+static reason_t
+ask_advances (call_t *call)
+{
+  hb_position_t *advances = realloc (call->advances, (call->count + 1) * sizeof *advances);
+  if (!advances)
+    return NO_MEMORY;
+  call->advances = advances;
+  hb_font_get_glyph_h_advances (call->font, (unsigned int) call->count, &call->infos->codepoint, sizeof *call->infos,
+                                advances, sizeof *advances);
+  return SHAPED;
+}
+
+/* Leaves the client's units, which the text doesn't fit. */
+static void
+leave_units (call_t *call)
+{
+  return_sized (call->owner, call->sized);
+  call->sized = NULL;
+  free (call->higher);
+  call->higher = NULL;
+}
+
+/* Shapes a text that was shaped once more, where it needs the client's units or advances. */
+static reason_t
+shape_in_units (call_t *call, const units_t *units)
+{
+  bool is_new = !call->sized && needs_units (call) && !lacks_space (call);
+  if (is_new)
+    call->sized = borrow_sized (call->face, call->owner, units, true);
+  if (!call->sized)
+    return SHAPED;
+  bool fits = set_advances (call->sized, call->infos, call->advances, call->count);
+  if (fits && !is_new && !is_stale (call->sized))
+    return SHAPED;
+  reason_t reason = fits ? shape_text (call) : SMALL_STACK;
+  if (reason == SHAPED)
+    return SHAPED;
+  leave_units (call);
+  return shape_text (call);
+}
+
+static reason_t
+shape_horizontal (call_t *call)
+{
+  units_t units = client_units (call->font);
+  if (applies_gpos (call->owner, call->properties.script) && !lacks_space (call))
+    call->sized = borrow_sized (call->face, call->owner, &units, false);
+  reason_t reason = shape_text (call);
+  if (reason != SHAPED && call->sized) {
+    leave_units (call);
+    reason = shape_text (call);
+  }
+  if (reason == SHAPED)
+    reason = ask_advances (call);
+  if (reason == SHAPED)
+    reason = shape_in_units (call, &units);
+  return reason == SHAPED && units.num_coordinates && !call->sized ? INSTANCE : reason;
+}
+
+/* ---- a face without tables */
+
+static bool
+has_marks (const call_t *call)
+{
+  hb_unicode_funcs_t *functions = hb_unicode_funcs_get_default ();
+  for (size_t i = 0; i < call->num_characters; i++) {
+    hb_unicode_general_category_t kind = hb_unicode_general_category (functions, call->characters[i].character);
+    if (kind == HB_UNICODE_GENERAL_CATEGORY_NON_SPACING_MARK || kind == HB_UNICODE_GENERAL_CATEGORY_ENCLOSING_MARK)
+      return true;
+  }
+  return false;
+}
+
+/* The glyphs tell of which of them advances and boxes are needed; with these the text is shaped again. */
+static reason_t
+shape_bare (call_t *call)
+{
+  units_t units = client_units (call->font);
+  bool wants_boxes = has_marks (call);
+  call->sized = units.x_scale > 0 ? borrow_bare (call, &units) : NULL;
+  if (!call->sized)
+    return NO_TABLES;
+  reason_t reason = shape_text (call);
+  if (reason == SHAPED)
+    reason = ask_advances (call);
+  if (reason != SHAPED)
+    return reason;
+  if (!set_advances (call->sized, call->infos, call->advances, call->count))
+    return NO_TABLES;
+  if (wants_boxes)
+    set_boxes (call->sized, call);
+  return is_stale (call->sized) ? shape_text (call) : SHAPED;
 }
 
 /* Gives the buffer what was shaped. Before the first step it is as it was. */
@@ -235,6 +293,28 @@ fill_buffer (call_t *call)
 
 /* ---- the call */
 
+/* The index of the lookups that stand for those of features (OpenType, FeatureVariations); -1 where none do. */
+static int64_t
+other_lookups (hb_font_t *font, hb_tag_t table, bool is_default)
+{
+  unsigned int count, index;
+  const int *coordinates = hb_font_get_var_coords_normalized (font, &count);
+  int *none = calloc ((size_t) count + 1, sizeof *none);
+  bool is_there = none
+                  && hb_ot_layout_table_find_feature_variations (hb_font_get_face (font), table,
+                                                                 is_default ? none : coordinates, count, &index);
+  free (none);
+  return is_there ? (int64_t) index : -1;
+}
+
+/* Whether an instance has other lookups than the default one, which Kuspveli reads. */
+static bool
+has_other_lookups (hb_font_t *font)
+{
+  return other_lookups (font, HB_OT_TAG_GSUB, true) != other_lookups (font, HB_OT_TAG_GSUB, false)
+         || other_lookups (font, HB_OT_TAG_GPOS, true) != other_lookups (font, HB_OT_TAG_GPOS, false);
+}
+
 /* The buffer's own state, which decides before a font is read. */
 static reason_t
 check_buffer (call_t *call)
@@ -246,12 +326,8 @@ check_buffer (call_t *call)
     return NO_DIRECTION;
   if (context && context->has_messages)
     return MESSAGES;
-  unsigned int count;
-  const int *coordinates = hb_font_get_var_coords_normalized (call->font, &count);
-  for (unsigned int i = 0; i < count; i++)
-    if (coordinates[i])
-      return INSTANCE;
-  return SHAPED;
+  bool is_vertical = !HB_DIRECTION_IS_HORIZONTAL (call->properties.direction);
+  return is_instance (call->font) && (is_vertical || has_other_lookups (call->font)) ? INSTANCE : SHAPED;
 }
 
 /* Opens the font of which the text needs no more. */
@@ -271,7 +347,6 @@ choose_font (call_t *call)
 /* What a call allocates for its text. */
 typedef struct {
   around_t around;
-  uint8_t *utf8;
   kus_feature_t *features;
 } room_t;
 
@@ -279,19 +354,20 @@ static reason_t
 shape_by_handle (call_t *call, room_t *room, const hb_glyph_info_t *infos, const hb_feature_t *features,
                  unsigned int num_features)
 {
-  size_t length;
-  reason_t reason = choose_font (call);
-  if (reason == SHAPED)
-    reason = read_characters (call, infos, room->utf8, &length);
-  if (reason == SHAPED)
+  bool is_horizontal = HB_DIRECTION_IS_HORIZONTAL (call->properties.direction);
+  bool by_client = is_horizontal && is_bare (call->owner);
+  reason_t reason = read_characters (call, infos);
+  if (reason == SHAPED && !by_client)
+    reason = choose_font (call);
+  if (reason == SHAPED && !by_client)
     reason = find_client_glyphs (call);
   if (reason != SHAPED)
     return reason;
-  call->text = kus_text ((const char *) room->utf8, length);
+  call->text = kus_text_characters (call->characters, call->num_characters);
   set_properties (call);
   set_context (call, &room->around);
   set_features (call, room->features, features, num_features);
-  reason = shape_text (call);
+  reason = by_client ? shape_bare (call) : is_horizontal ? shape_horizontal (call) : shape_text (call);
   return reason == SHAPED ? fill_buffer (call) : reason;
 }
 
@@ -301,7 +377,9 @@ free_call (call_t *call)
   free (call->characters);
   free (call->infos);
   free (call->positions);
-  free (call->traced);
+  free (call->higher);
+  free (call->missing);
+  free (call->advances);
   free (call->client_infos);
   free (call->client_positions);
 }
@@ -313,13 +391,11 @@ shape_in_room (call_t *call, const hb_feature_t *features, unsigned int num_feat
   const hb_glyph_info_t *infos = hb_buffer_get_glyph_infos (call->buffer, &length);
   call->num_characters = length;
   call->characters = malloc (((size_t) length + 1) * sizeof *call->characters);
-  room_t room = { .utf8 = malloc (MOST_BYTES * (size_t) length + 1) };
-  room.features = malloc (((size_t) num_features + 1) * sizeof *room.features);
+  room_t room = { .features = malloc (((size_t) num_features + 1) * sizeof *room.features) };
   reason_t reason = NO_MEMORY;
-  if (call->characters && room.utf8 && room.features)
+  if (call->characters && room.features)
     reason = shape_by_handle (call, &room, infos, features, num_features);
   free (room.features);
-  free (room.utf8);
   return reason;
 }
 
@@ -336,6 +412,8 @@ shape_in_face (call_t *call, const hb_feature_t *features, unsigned int num_feat
     return NO_MEMORY;
   reason_t reason = shape_in_room (call, features, num_features);
   return_handle (call->owner, call->handle);
+  if (call->sized)
+    return_sized (call->owner, call->sized);
   free_call (call);
   return reason;
 }

@@ -8,7 +8,7 @@ from typing import Any, Iterable
 
 OWN = "shaped by Kuspveli"
 # Of what kinds of differences glyphs and positions are the same, but for rounding.
-SAME = ("equal", "within 2 units", "flags", "clusters")
+SAME = ("equal", "within 1 unit", "flags", "clusters")
 
 
 @dataclass

@@ -31,8 +31,8 @@ needs_library = unittest.skipUnless(
     can_make() and PLACE.file.is_file() and Path(DEJAVU).is_file() and Path(NASKH).is_file(),
     "needs gcc, pkg-config, libharfbuzz-dev, fonts-dejavu-core, fonts-noto-core and a library that is built",
 )
-# By how much a sum of rounded values may differ from a rounded sum.
-ROUNDING = 2
+# By how much a number may differ from one that is rounded otherwise.
+ROUNDING = 1
 # A glyph as HarfBuzz writes it: number, cluster, offsets where there are some, advances.
 GLYPH = re.compile(r"(\d+)=(\d+)(?:@(-?\d+),(-?\d+))?\+(-?\d+)(?:,(-?\d+))?")
 
@@ -44,6 +44,41 @@ def row(program: str = "p", **changed: Any) -> dict[str, Any]:
         "calls": {OWN: 3}, "patches": {}, "differences": {},
     }  # fmt: skip
     return {**plain, **changed}
+
+
+DEVICES = """
+markClass acute <anchor 101 303 <device 12 2> <device 12 -3>> @TOP;
+markClass grave <anchor 77 355> @TOP;
+feature kern {
+    pos a b <3 5 -31 0 <device 12 1> <device NULL> <device 11 -1, 12 -2> <device NULL>>;
+} kern;
+feature mark {
+    pos base a <anchor 203 507 <device 11 7, 12 -5> <device NULL>> mark @TOP;
+    pos base b <anchor 203 507> mark @TOP;
+} mark;
+feature mkmk { pos mark acute <anchor 99 613> mark @TOP; } mkmk;
+"""
+
+
+def write_devices(path: Path) -> str:
+    """A font with device tables of sizes of 11 and 12 pixels."""
+    from fontTools.feaLib.builder import addOpenTypeFeaturesFromString
+    from fontTools.fontBuilder import FontBuilder
+    from fontTools.pens.ttGlyphPen import TTGlyphPen
+
+    names = [".notdef", "a", "b", "acute", "grave"]
+    font = FontBuilder(1000, isTTF=True)
+    font.setupGlyphOrder(names)
+    font.setupCharacterMap({ord("a"): "a", ord("b"): "b", 0x301: "acute", 0x300: "grave"})
+    font.setupGlyf({name: TTGlyphPen(None).glyph() for name in names})
+    font.setupHorizontalMetrics({name: (503, 10) for name in names})
+    font.setupHorizontalHeader(ascent=800, descent=-200)
+    font.setupOS2()
+    font.setupNameTable({"familyName": "Devices"})
+    font.setupPost()
+    addOpenTypeFeaturesFromString(font.font, DEVICES)
+    font.save(path)
+    return str(path)
 
 
 class Words(unittest.TestCase):
@@ -100,7 +135,7 @@ class Reports(unittest.TestCase):
 
     def test_differences(self) -> None:
         """Texts that are the same but for rounding, and how a difference is told."""
-        report = summed([row(differences={"equal": 5, "within 2 units": 2, "glyphs": 1})])["p"]
+        report = summed([row(differences={"equal": 5, "within 1 unit": 2, "glyphs": 1})])["p"]
         self.assertEqual((report.same, report.differences.total()), (7, 8))
         told = {
             "what": "glyphs", "text": [111, 102], "font": "F", "script": "Latn", "direction": "ltr", "language": "en",
@@ -162,8 +197,11 @@ class Programs(unittest.TestCase):
 
     def both(self, case: str, font: str = DEJAVU) -> tuple[dict[str, int], dict[str, int]]:
         """Runs a case both ways, and compares the lines: all but numbers are the same, and these but for rounding."""
-        own, calls, patches = self.shaped(str(self.client), font, case)
-        theirs, _, _ = self.shaped(str(self.client), font, case, is_own=False)
+        return self.alike(str(self.client), font, case)
+
+    def alike(self, *words: str) -> tuple[dict[str, int], dict[str, int]]:
+        own, calls, patches = self.shaped(*words)
+        theirs, _, _ = self.shaped(*words, is_own=False)
         self.assertEqual(GLYPH.sub("#", own), GLYPH.sub("#", theirs))
         self.assertIn("#", GLYPH.sub("#", theirs))
         for left, right in zip(GLYPH.findall(own), GLYPH.findall(theirs), strict=True):
@@ -183,11 +221,9 @@ class Programs(unittest.TestCase):
 
     def test_shaped(self) -> None:
         """What Kuspveli shapes whole: by a file and by tables, by each call, in each direction, with contexts."""
-        for case, count in (("file", 5), ("tables", 5), ("contexts", 8), ("vertical", 1), ("slant", 5), ("scale", 20)):
+        for case, count in (("file", 5), ("tables", 5), ("contexts", 8), ("vertical", 1), ("slant", 5), ("scale", 20), ("bare", 3)):
             with self.subTest(case):
-                calls, patches = self.both(case)
-                self.assertEqual(calls, {OWN: count})
-                self.assertNotIn("offsets that could not be traced to advances", patches)
+                self.assertEqual(self.both(case)[0], {OWN: count})
         for case, count in (("contexts", 8), ("file", 5)):
             with self.subTest(case, font=NASKH):
                 self.assertEqual(self.both(case, NASKH)[0], {OWN: count})
@@ -195,9 +231,9 @@ class Programs(unittest.TestCase):
     def test_client(self) -> None:
         """A client's advances, also below marks; its glyphs for missing characters; invisible and missing glyphs."""
         calls, patches = self.both("advances")
-        self.assertEqual((calls, patches["texts with the client's advances"]), ({OWN: 5}, 5))
-        self.assertGreater(patches["offsets over the client's advances"], 0)
-        self.assertNotIn("offsets that could not be traced to advances", patches)
+        self.assertEqual(calls, {OWN: 5})
+        self.assertEqual(patches["texts with the client's advances"] + patches["texts in the client's units"], 5)
+        self.assertGreater(patches["texts in the client's units"], 2)
         calls, patches = self.both("missing")
         self.assertEqual((calls, patches["clusters with the client's glyphs for missing characters"]), ({OWN: 1}, 3))
         calls, patches = self.both("settings")
@@ -207,10 +243,10 @@ class Programs(unittest.TestCase):
         """What is left to HarfBuzz, and why."""
         for case, expected in (
             ("calls", {OWN: 2, "another shaper is asked for": 1}),
-            ("clusters", {OWN: 1, "characters share a cluster": 2, "clusters fall": 1}),
+            ("clusters", {OWN: 3, "a character is no Unicode scalar value": 1}),
             ("messages", {"the client follows the steps of shaping": 1}),
             ("stack", {OWN: 1, "the thread's stack is too small": 1}),
-            ("nothing", {"the face has no tables": 2}),
+            ("nothing", {OWN: 1, "the face has no tables": 1}),
         ):
             with self.subTest(case):
                 self.assertEqual(self.both(case)[0], expected)
@@ -225,18 +261,29 @@ class Programs(unittest.TestCase):
     @needs_fonts
     @unittest.skipUnless(shutil.which("hb-shape"), "needs libharfbuzz-bin")
     def test_instances(self) -> None:
-        """A variable font away from its default instance is HarfBuzz's; at its default it is Kuspveli's."""
+        """A variable font at its default, and away from it: there it has other lookups, or values of its own."""
         from test_variations import write_font
 
         font = write_font(Path(self.folder.name) / "varied.ttf")
         for variations, expected in (
             ("wght=650", {"the font is an instance of a variable font": 1}),
+            ("wght=450", {OWN: 1}),
             ("wght=400", {OWN: 1}),
         ):
             with self.subTest(variations):
                 words = ("hb-shape", "--no-glyph-names", f"--variations={variations}", font, "ab")
                 own, calls, _ = self.shaped(*words)
                 self.assertEqual((own, calls), (self.shaped(*words, is_own=False)[0], expected))
+
+    @unittest.skipUnless(shutil.which("hb-shape"), "needs libharfbuzz-bin")
+    def test_devices(self) -> None:
+        """At sizes in pixels values and anchors have what their device tables say, also where a mark stands on a mark."""
+        font = write_devices(Path(self.folder.name) / "devices.ttf")
+        for pixels in (0, 11, 12):
+            with self.subTest(pixels):
+                sizes = (f"--font-size={64 * (pixels or 12)}", f"--font-ppem={pixels}")
+                words = ("hb-shape", "--no-glyph-names", *sizes, font, "aba\u0301b\u0301\u0300")
+                self.assertEqual(self.alike(*words)[0], {OWN: 1})
 
     @unittest.skipUnless(shutil.which("hb-shape"), "needs libharfbuzz-bin")
     def test_compared(self) -> None:

@@ -335,6 +335,54 @@ of_missing (void)
   hb_font_destroy (parent);
 }
 
+static hb_bool_t
+nominal_of_parent (hb_font_t *font, void *data, hb_codepoint_t unicode, hb_codepoint_t *glyph, void *user)
+{
+  (void) font, (void) user;
+  return hb_font_get_nominal_glyph (data, unicode, glyph);
+}
+
+static hb_position_t
+advance_of_parent (hb_font_t *font, void *data, hb_codepoint_t glyph, void *user)
+{
+  (void) font, (void) user;
+  return hb_font_get_glyph_h_advance (data, glyph);
+}
+
+static hb_bool_t
+extents_of_parent (hb_font_t *font, void *data, hb_codepoint_t glyph, hb_glyph_extents_t *extents, void *user)
+{
+  (void) font, (void) user;
+  return hb_font_get_glyph_extents (data, glyph, extents);
+}
+
+static hb_blob_t *
+no_table (hb_face_t *face, hb_tag_t tag, void *data)
+{
+  (void) face, (void) tag, (void) data;
+  return NULL;
+}
+
+/* A face without tables, as of bare CFF: all that is known of it is what the functions answer. */
+static void
+of_bare (void)
+{
+  hb_font_t *whole = new_font (new_face ()), *font = new_font (hb_face_create_for_tables (no_table, NULL, NULL));
+  hb_font_funcs_t *functions = hb_font_funcs_create ();
+  hb_font_funcs_set_nominal_glyph_func (functions, nominal_of_parent, NULL, NULL);
+  hb_font_funcs_set_glyph_h_advance_func (functions, advance_of_parent, NULL, NULL);
+  hb_font_funcs_set_glyph_extents_func (functions, extents_of_parent, NULL, NULL);
+  hb_font_set_scale (whole, 1600, 1600);
+  hb_font_set_scale (font, 1600, 1600);
+  hb_font_set_funcs (font, functions, whole, NULL);
+  static const char *const bare_words[] = { "office AVATAR", "e\xCC\x8A\xCC\x81x\xCC\xA3", "\xF0\x9D\x90\x80\xC3\xA9" };
+  for (size_t i = 0; i < sizeof bare_words / sizeof *bare_words; i++)
+    shape_buffer ("bare", font, buffer_of (bare_words[i]));
+  hb_font_funcs_destroy (functions);
+  hb_font_destroy (font);
+  hb_font_destroy (whole);
+}
+
 static void
 of_vertical (void)
 {
@@ -489,6 +537,7 @@ static const struct {
   { "file", of_file },         { "tables", of_tables },     { "nothing", of_nothing }, { "calls", by_calls },
   { "contexts", of_contexts }, { "clusters", of_clusters }, { "settings", of_settings }, { "messages", of_messages },
   { "scale", of_scale },       { "slant", of_slant },       { "advances", of_advances }, { "missing", of_missing },
+  { "bare", of_bare },
   { "vertical", of_vertical }, { "threads", of_threads },   { "stack", of_stack },       { "fork", of_fork },
   { "forks", of_forks },
 };
