@@ -15,6 +15,7 @@ from common.documents import replace_part
 from common.faults import FILES, ToolFault
 from common.files import write_over
 from common.parsing import Words
+from fuzzing.converted import small_fonts
 from library_tests import drivers
 from library_tests.cases import SETTINGS, Case, Script, scripts
 from library_tests.drivers import Tested
@@ -29,7 +30,7 @@ NAME = "test_library"
 ABOUT = """Tests the library for C: its header as C99, C11 and C++ beside HarfBuzz's numbers and structs; the same texts from
 C, Rust (where cargo is there) and Python as from the program, with their slices, by a font's JSON and by its file; what
 the calls for font files answer, also of damaged ones; each allocation freed, by valgrind and by counts over many calls on
-four threads; each allocation of a call refused in turn; the stack that the header asks for;
+four threads; calls of every kind with drawn arguments, under valgrind; each allocation of a call refused in turn; the stack that the header asks for;
 and what a word of each script takes by the kept plan, words of four scripts and texts of several scripts in turn,
 beside HarfBuzz's. It takes the proved program and library where they are built of the sources that stand here, else
 those without proofs, which it makes first, and says so. By --table it measures alone, and the table stands in a
@@ -40,6 +41,8 @@ SHOWN = ("--no-glyph-names", "--show-flags", "--slices")
 CALLS = 1_000_000
 # The script whose font file is read with each of its allocations refused, and the calls that shape in it.
 REFUSED, FEW_CALLS = "Tamil", 20_000
+# How many calls are drawn, and the seed.
+DRAWN, SEED = 100_000, 1
 # How deep arrays and objects may nest in a file.
 DEEPEST = 127
 BEGIN, END = (f"<!-- tools/test_library --table {word} -->" for word in ("begins", "ends"))
@@ -97,6 +100,8 @@ def tell_tests(program: Path, tested: Tested, tables: Path, all_scripts: list[Sc
     latin, *_ = all_scripts
     some = [case.text for case in latin.cases if case.settings == SETTINGS[0] and case.text][:4]
     tell("font files", drivers.try_fonts(work, library, tables, latin.font, some[0]))
+    drawn = drivers.random_calls(work, library, list(small_fonts()), SEED, min(calls, DRAWN))
+    tell("drawn calls, under valgrind", drawn)
     tell("memory", drivers.count_calls(work, library, (tables, fonts[latin.font]), calls, some))
     refused = next(script for script in all_scripts if script.name == REFUSED)
     of_file = (drivers.OWN_TABLES, refused.font), min(calls, FEW_CALLS), [refused.cases[0].text]

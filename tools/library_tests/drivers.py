@@ -115,6 +115,15 @@ def count_calls(work: Path, library: Place, files: tuple[Path, Path], calls: int
     return call([program, *files, str(calls), *words]).strip()
 
 
+def random_calls(work: Path, library: Place, fonts: list[bytes], seed: int, calls: int) -> str:
+    """Calls of every kind with arguments drawn by a seed, under valgrind: over font files and a font of JSON."""
+    given = [work / f"drawn{at}.ttf" for at in range(len(fonts))]
+    for path, font in zip(given, fonts, strict=True):
+        write_over(path, font)
+    words = [compiled(work, "calls", [library.file]), str(seed), str(calls), *given, ROOT / "examples" / "ligature_font.json"]
+    return call([*VALGRIND, *words]).strip()
+
+
 def try_fonts(work: Path, library: Place, tables: Path, font: Path, text: str) -> str:
     """What the calls for font files answer of a font file, a collection of it, and damaged files."""
     program, collection = compiled(work, "fonts", [library.file]), work / "collection"

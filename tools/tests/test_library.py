@@ -92,6 +92,19 @@ class Cases(unittest.TestCase):
         self.assertIn("Devanagari", WORDS.read_text(encoding="utf-8"))
 
 
+class Drawn(unittest.TestCase):
+    def test_all(self) -> None:
+        """The driver of drawn calls makes each call of the header: those of one name with _over or _alone by one that stands
+        for both, a text's by its fields."""
+        header = (drivers.INCLUDE / "kuspveli.h").read_text(encoding="utf-8")
+        driver = (drivers.SOURCES / "calls.c").read_text(encoding="utf-8")
+        names = set(re.findall(r"\b(kus_\w+) \(", header))
+        inside = {"kus_font_create_from_bytes_over", "kus_font_create_from_bytes_alone", "kus_tag_from_string"}
+        texts = {"kus_text", "kus_text_utf16", "kus_text_utf32", "kus_text_characters"}
+        missing = {name for name in names if not re.search(rf"\b{name} \(", driver)}
+        self.assertEqual(missing - inside - texts, set())
+
+
 class Collections(unittest.TestCase):
     def test_offsets(self) -> None:
         """Each font of a collection has its tables where its own directory says, and begins at a multiple of four."""
