@@ -45,8 +45,10 @@ class Client:
         return next((word for word in words if word[:1].isdigit()), "")
 
 
-def run_client(client: Client, folder: Path, paragraphs: list[Paragraph], settings: dict[str, str]) -> bool:
-    """Runs a client in a folder of its own, with settings in its environment; whether all went well."""
+def run_client(
+    client: Client, folder: Path, paragraphs: list[Paragraph], settings: dict[str, str], *, is_drawn: bool = True
+) -> bool:
+    """Runs a client in a folder of its own, with settings in its environment, and draws its pages; whether all went well."""
     folder.mkdir()
     own = {"HOME": str(folder), "QT_QPA_PLATFORM": "offscreen", "SOURCE_DATE_EPOCH": "0"}
     environment = {**os.environ, **settings, **own}
@@ -59,7 +61,7 @@ def run_client(client: Client, folder: Path, paragraphs: list[Paragraph], settin
             is_well = False
             told = ran.stderr.decode(errors="replace").strip().splitlines()[-3:]
             print(f"{client.name}: {words[0]} ended with {ran.returncode}: {' / '.join(told)}", file=sys.stderr)
-    if client.has_pages:
+    if client.has_pages and is_drawn:
         draw_pages(folder)
     return is_well
 
@@ -79,6 +81,18 @@ def pictures_of(folder: Path) -> list[str]:
 
 
 # ---- what each is run on
+
+
+def hb_shape(folder: Path, paragraphs: list[Paragraph]) -> list[list[str]]:
+    """Lines of every set with the hinted advances of FreeType, at 13 pixels of 64 units."""
+    made = []
+    for number, each in enumerate(texts.hinted_paragraphs()):
+        text = texts.write_text(folder / f"{number}.txt", each.lines[: texts.HINTED])
+        made.append([
+            "hb-shape", str(each.font), f"--text-file={text}", f"--language={each.language}", "--font-funcs=ft",
+            "--ft-load-flags=0", "--font-size=832",
+        ])  # fmt: skip
+    return made
 
 
 def hb_view(folder: Path, paragraphs: list[Paragraph]) -> list[list[str]]:
@@ -145,6 +159,7 @@ def libreoffice(folder: Path, paragraphs: list[Paragraph]) -> list[list[str]]:
 
 
 CLIENTS = (
+    Client("hb-shape, hinted", "hb-shape", "libharfbuzz-bin", hb_shape),
     Client("hb-view", "hb-view", "libharfbuzz-bin", hb_view),
     Client("pango-view", "pango-view", "pango1.0-tools", pango_view),
     Client("rsvg-convert", "rsvg-convert", "librsvg2-bin", rsvg_convert),

@@ -15,9 +15,12 @@ TITLES = (
     "Devanagari, NotoSansDevanagari", "Bengali, NotoSansBengali", "Thai, NotoSansThai", "Khmer, NotoSansKhmer",
     "Myanmar, NotoSansMyanmar", "Hangul, NanumGothic",
 )  # fmt: skip
-CHARACTERS = 400
+# Characters of a paragraph, and of one that takes time.
+CHARACTERS, LONG = 400, 8000
 # Characters of a line, where a program doesn't break lines itself.
 WIDTH = 48
+# Lines of each of the 26 sets, in which advances are hinted.
+HINTED = 66
 
 
 @dataclass(frozen=True)
@@ -37,18 +40,23 @@ class Paragraph:
         return wrap(self.text, WIDTH, break_on_hyphens=False)
 
 
-def paragraphs() -> list[Paragraph]:
+def paragraphs(characters: int = CHARACTERS) -> list[Paragraph]:
     chosen = {each.title: each for each in SETS}
-    return [paragraph_of(chosen[title]) for title in TITLES]
+    return [paragraph_of(chosen[title], characters) for title in TITLES]
 
 
-def paragraph_of(chosen: Set) -> Paragraph:
+def hinted_paragraphs() -> list[Paragraph]:
+    """A paragraph of more than `HINTED` lines for each set."""
+    return [paragraph_of(chosen, 2 * HINTED * WIDTH) for chosen in SETS]
+
+
+def paragraph_of(chosen: Set, characters: int = CHARACTERS) -> Paragraph:
     if not chosen.font.is_file():
         raise ToolFault(FILES, f"{chosen.font}: no such font ({chosen.package} has it)")
     is_backward = chosen.language in ("he", "ar")
     return Paragraph(
         chosen.name.partition(",")[0], chosen.font, family_of(chosen), chosen.language, is_backward,
-        text_of(chosen, CHARACTERS),
+        text_of(chosen, characters),
     )  # fmt: skip
 
 
