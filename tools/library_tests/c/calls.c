@@ -115,7 +115,7 @@ put_utf16 (uint8_t *to, uint32_t c)
   return c > 0xFFFF ? 4 : 2;
 }
 
-/* Characters in an encoding, one time in four cut; the bytes are in a block of their own. */
+/* Characters in an encoding, one time in eight cut; the bytes are in a block of their own. */
 static uint8_t *
 some_text (uint32_t encoding, size_t *length)
 {
@@ -130,9 +130,9 @@ some_text (uint32_t encoding, size_t *length)
       size_t size = encoding & KUS_FLAG_UTF32 ? sizeof c : sizeof character;
       memcpy (bytes + end, &character, size);
       end += size;
-    } else if (c < 0xD800 || c > 0xDFFF || once_in (50)) end += put_utf8 (bytes + end, c);
+    } else if (c < 0xD800 || c > 0xDFFF || once_in (400)) end += put_utf8 (bytes + end, c);
   }
-  *length = once_in (4) ? below ((uint32_t) end + 1) : end;
+  *length = once_in (8) ? below ((uint32_t) end + 1) : end;
   uint8_t *made = block (*length);
   memcpy (made, bytes, *length);
   return made;
@@ -161,7 +161,7 @@ drawn_text (void)
   text.text = some_text (encoding, &text.text_length);
   text.before = some_text (around, &text.before_length);
   text.after = some_text (around, &text.after_length);
-  const char *language = languages[below (7)];
+  const char *language = once_in (4) ? languages[below (7)] : "";
   text.language_length = strlen (language);
   uint8_t *made = block (text.language_length);
   memcpy (made, language, text.language_length);
@@ -316,9 +316,9 @@ call_handles (void)
 {
   kus_font_t *font = some_font (), *other = some_font ();
   if (font == other) return;
-  switch (below (4)) {
+  switch (below (12)) {
   case 0: kus_font_destroy (font); break;
-  case 1: { kus_font_t moved = *font; *font = *other; *other = moved; break; }
+  case 1: case 2: case 3: { kus_font_t moved = *font; *font = *other; *other = moved; break; }
   default: note (kus_font_reference (font, other)); break;
   }
 }
@@ -379,7 +379,7 @@ make_call (void)
   if (at < 55) call_shape ();
   else if (at < 80) call_questions ();
   else if (at < 90) call_words ();
-  else if (at < 97) call_handles ();
+  else if (at < 94) call_handles ();
   else if (at < 99) call_fonts ();
   else call_tables ();
 }
