@@ -104,6 +104,9 @@ static void
 put_value (table_t *table, size_t at, int64_t whole)
 {
   int64_t value = fraction_of (table->units->fraction, whole);
+  /* A value whose lower bits are 0 is one still for the flags of its glyphs. */
+  if (table->units->fraction == LOW && whole && !value)
+    value = 1;
   table->fits &= INT16_MIN <= value && value <= INT16_MAX;
   table->bytes[at] = (uint8_t) ((uint64_t) value >> 8);
   table->bytes[at + 1] = (uint8_t) value;
