@@ -17,8 +17,10 @@ from xml.etree import ElementTree
 from support import DEJAVU, NASKH, TOOLS, needs_fonts, run
 
 from building.places import LIBRARY, standing
+from beside.sets import SETS
+from clients import cli as client_cli
 from clients import texts
-from clients.runs import Client, run_client
+from clients.runs import CLIENTS, Client, run_client
 from clients.texts import Paragraph
 from common.faults import ToolFault
 from preload import cli
@@ -370,6 +372,24 @@ class Clients(unittest.TestCase):
             self.assertEqual((self.folder / str(status) / "said").read_text(), "r\n")
             self.assertEqual(told.getvalue(), "C: sh ended with 3: \n" if status else "")
         self.assertFalse(Client("C", "no-such-program", "p", work).is_there())
+
+    def test_times(self) -> None:
+        """Programs run both ways in turn, and the table has the least time of each way."""
+        ran = self.folder / "ran"
+        busy = f'i=0; while [ $i -lt 9000 ]; do i=$((i+1)); done; echo "$LD_PRELOAD" >>"{ran}"'
+        work = lambda folder, paragraphs: [["sh", "-c", busy]]
+        with contextlib.redirect_stdout(io.StringIO()) as told, unittest.mock.patch.object(client_cli, "paragraphs"):
+            self.assertEqual(client_cli.tell_times([Client("C", "sh", "dash", work)], Path("/no/object.so"), 2), 0)
+        self.assertEqual([line[-6:] for line in ran.read_text().splitlines()], ["", "ect.so"] * 2)
+        self.assertRegex(told.getvalue().splitlines()[-1], r"^\| C \| \d+\.\d\d \| \d+\.\d\d \| \d+\.\d\d \|$")
+
+    def test_hinted(self) -> None:
+        """Each set has lines enough, and its own font."""
+        work = next(client for client in CLIENTS if client.name == "hb-shape, hinted").work(self.folder, [])
+        for words in work:
+            [text] = [word.partition("=")[2] for word in words if word.startswith("--text-file=")]
+            self.assertEqual(len(Path(text).read_text(encoding="utf-8").splitlines()), texts.HINTED)
+        self.assertEqual(len(work), len(SETS))
 
 
 # Runs the tool with an object that is there.
