@@ -175,14 +175,22 @@ client_units (hb_font_t *font)
   return units;
 }
 
+#define ABBREVIATION_MARK 0x70F /* of Syriac, which is stretched over a word */
+
+static bool
+is_wide_space (uint32_t unicode)
+{
+  return (0x2000 <= unicode && unicode <= 0x200A) || unicode == 0x202F || unicode == 0x205F || unicode == 0x3000;
+}
+
 bool
-lacks_space (const call_t *call)
+compares_widths (const call_t *call)
 {
   for (size_t i = 0; i < call->num_characters; i++) {
     uint32_t unicode = call->characters[i].character, glyph;
-    bool is_space = unicode == 0x202F || unicode == 0x205F || unicode == 0x3000;
-    is_space |= 0x2000 <= unicode && unicode <= 0x200A;
-    if (is_space && !kus_font_get_nominal_glyph (call->own_font, unicode, &glyph))
+    if (unicode == ABBREVIATION_MARK)
+      return true;
+    if (is_wide_space (unicode) && !kus_font_get_nominal_glyph (call->own_font, unicode, &glyph))
       return true;
   }
   return false;

@@ -275,8 +275,9 @@ units_t client_units (hb_font_t *font);
 /* Whether the font is an instance of a variable font away from its default. */
 bool is_instance (hb_font_t *font);
 
-/* Whether the text has a space that the font lacks: its width is a part of an em, which the units may not fit. */
-bool lacks_space (const call_t *call);
+/* Whether glyphs depend on widths otherwise than by sums: a space that the font lacks is a part of an em, and a mark is
+ * stretched over a word. Such a text isn't shaped in the client's units. */
+bool compares_widths (const call_t *call);
 
 /* After shaping in font units: whether the client's units or advances are others, and positions have sums of them. */
 bool needs_units (const call_t *call);

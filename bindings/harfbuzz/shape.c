@@ -156,9 +156,12 @@ shape_higher (call_t *call)
   reason_t reason = font && infos && call->higher ? SHAPED : NO_MEMORY;
   if (reason == SHAPED)
     reason = reason_of (kus_shape (font, &call->text, infos, call->count, call->higher, call->count, &count));
-  if (reason == SHAPED && count != call->count)
-    reason = NO_MEMORY;
+  bool is_same = reason == SHAPED && count == call->count;
+  for (size_t i = 0; is_same && i < count; i++)
+    is_same = infos[i].codepoint == call->infos[i].codepoint;
   free (infos);
+  if (reason == SHAPED && !is_same)
+    return NO_MEMORY;
   return reason;
 }
 
@@ -200,7 +203,7 @@ leave_units (call_t *call)
 static reason_t
 shape_in_units (call_t *call, const units_t *units)
 {
-  bool is_new = !call->sized && needs_units (call) && !lacks_space (call);
+  bool is_new = !call->sized && needs_units (call) && !compares_widths (call);
   if (is_new)
     call->sized = borrow_sized (call->face, call->owner, units, true);
   if (!call->sized)
@@ -219,7 +222,7 @@ static reason_t
 shape_horizontal (call_t *call)
 {
   units_t units = client_units (call->font);
-  if (applies_gpos (call->owner, call->properties.script) && !lacks_space (call))
+  if (applies_gpos (call->owner, call->properties.script) && !compares_widths (call))
     call->sized = borrow_sized (call->face, call->owner, &units, false);
   reason_t reason = shape_text (call);
   if (reason != SHAPED && call->sized) {

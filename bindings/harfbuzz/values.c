@@ -13,6 +13,7 @@ typedef struct {
   const units_t *units;
   variations_t *variations;
   size_t rest; /* of the steps: subtables that overlap would take too many */
+  bool is_halved; /* a value of kern is shared between the pair's two glyphs */
   bool fits;
 } table_t;
 
@@ -100,10 +101,21 @@ begin_value (table_t *table, size_t at)
   return true;
 }
 
+/* A fraction of a value; of one that is halved the higher bits are even, so that halves add up too. */
+static int64_t
+fraction_in (const table_t *table, int64_t whole)
+{
+  fraction_t fraction = table->units->fraction;
+  if (!table->is_halved || fraction == WHOLE)
+    return fraction_of (fraction, whole);
+  int16_t low = (int16_t) whole;
+  return fraction == LOW ? low : fraction_of (HIGH, whole - low);
+}
+
 static void
 put_value (table_t *table, size_t at, int64_t whole)
 {
-  int64_t value = fraction_of (table->units->fraction, whole);
+  int64_t value = fraction_in (table, whole);
   /* A value whose lower bits are 0 is one still for the flags of its glyphs. */
   if (table->units->fraction == LOW && whole && !value)
     value = 1;
@@ -369,7 +381,7 @@ scaled_table (hb_face_t *face, hb_tag_t tag, const units_t *units)
   if (!copy)
     return NULL;
   unsigned int length;
-  table_t table = { .units = units, .fits = true };
+  table_t table = { .units = units, .is_halved = tag != HB_OT_TAG_GPOS, .fits = true };
   table.bytes = (uint8_t *) hb_blob_get_data_writable (copy, &length);
   table.length = length;
   table.rest = STEPS_OF_BYTE * (size_t) length;
