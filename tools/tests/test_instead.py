@@ -62,11 +62,19 @@ feature mkmk { pos mark acute <anchor 99 613> mark @TOP; } mkmk;
 """
 
 
-def write_devices(path: Path) -> str:
-    """A font with device tables of sizes of 11 and 12 pixels."""
+MARKS = """
+markClass acute <anchor 101 303> @TOP;
+feature mark { pos base a <anchor 203 507> mark @TOP; pos base b <anchor 203 507> mark @TOP; } mark;
+"""
+
+
+def write_font(path: Path, features: str, kern: dict[tuple[str, str], int] | None = None) -> str:
+    """A font of two letters and two marks."""
     from fontTools.feaLib.builder import addOpenTypeFeaturesFromString
     from fontTools.fontBuilder import FontBuilder
     from fontTools.pens.ttGlyphPen import TTGlyphPen
+    from fontTools.ttLib import newTable
+    from fontTools.ttLib.tables._k_e_r_n import KernTable_format_0
 
     names = [".notdef", "a", "b", "acute", "grave"]
     font = FontBuilder(1000, isTTF=True)
@@ -76,9 +84,14 @@ def write_devices(path: Path) -> str:
     font.setupHorizontalMetrics({name: (503, 10) for name in names})
     font.setupHorizontalHeader(ascent=800, descent=-200)
     font.setupOS2()
-    font.setupNameTable({"familyName": "Devices"})
+    font.setupNameTable({"familyName": "Marks"})
     font.setupPost()
-    addOpenTypeFeaturesFromString(font.font, DEVICES)
+    addOpenTypeFeaturesFromString(font.font, features)
+    if kern:
+        font.font["kern"] = table = newTable("kern")
+        pairs = KernTable_format_0()
+        pairs.coverage, pairs.kernTable, pairs.apple = 1, kern, False
+        table.version, table.kernTables = 0, [pairs]
     font.save(path)
     return str(path)
 
@@ -264,9 +277,9 @@ class Programs(unittest.TestCase):
     @unittest.skipUnless(shutil.which("hb-shape"), "needs libharfbuzz-bin")
     def test_instances(self) -> None:
         """A variable font at its default, and away from it: there it has other lookups, or values of its own."""
-        from test_variations import write_font
+        from test_variations import write_font as write_varied
 
-        font = write_font(Path(self.folder.name) / "varied.ttf")
+        font = write_varied(Path(self.folder.name) / "varied.ttf")
         for variations, expected in (
             ("wght=650", {"the font is an instance of a variable font": 1}),
             ("wght=450", {OWN: 1}),
@@ -280,11 +293,20 @@ class Programs(unittest.TestCase):
     @unittest.skipUnless(shutil.which("hb-shape"), "needs libharfbuzz-bin")
     def test_devices(self) -> None:
         """At sizes in pixels values and anchors have what their device tables say, also where a mark stands on a mark."""
-        font = write_devices(Path(self.folder.name) / "devices.ttf")
+        font = write_font(Path(self.folder.name) / "devices.ttf", DEVICES)
         for pixels in (0, 11, 12):
             with self.subTest(pixels):
                 sizes = (f"--font-size={64 * (pixels or 12)}", f"--font-ppem={pixels}")
                 words = ("hb-shape", "--no-glyph-names", *sizes, font, "aba\u0301b\u0301\u0300")
+                self.assertEqual(self.alike(*words)[0], {OWN: 1})
+
+    @unittest.skipUnless(shutil.which("hb-shape"), "needs libharfbuzz-bin")
+    def test_kern(self) -> None:
+        """A value of kern is halved between a pair's glyphs, also where it has more than 16 bits in the font's units."""
+        font = write_font(Path(self.folder.name) / "kern.ttf", MARKS, {("a", "b"): -61, ("b", "a"): 133})
+        for size in (832, 12029, 21845, 200000):
+            with self.subTest(size):
+                words = ("hb-shape", "--no-glyph-names", f"--font-size={size}", font, "aba\u0301b\u0301")
                 self.assertEqual(self.alike(*words)[0], {OWN: 1})
 
     @unittest.skipUnless(shutil.which("hb-shape"), "needs libharfbuzz-bin")
