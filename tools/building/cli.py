@@ -61,4 +61,6 @@ def take_program(place: Place, tree: Path, kit: Kit, begun: float, log: Path) ->
         shutil.copy(made, new)
         os.utime(new, (begun, begun))
         os.replace(new, place.file)
+        if place.log != log:
+            shutil.copyfile(log, place.log)
     place.write_stamp(stamp_of(tree, place.lines(), kit.line), kit.line)

@@ -18,7 +18,7 @@ from unittest import mock
 from support import TOOLS, copy_tools, interruptible, write_files
 
 from building import cli
-from building.places import PROGRAM, Place
+from building.places import KUSPVELI, PROGRAM, Place
 from building.tree import files_of, needed_lines
 from common.faults import ToolFault
 from sources.crates import ROOT, read_crates
@@ -139,6 +139,18 @@ class Built(unittest.TestCase):
         self.assertTrue(told.endswith("built out/hb_shape\n"), told)
         self.assertTrue(os.access(self.place.file, os.X_OK))
         self.assertIn("fn low::f: proved\n", self.place.log.read_text())
+
+    def test_logs(self) -> None:
+        """Each program that one run built has the run's log, which a release reads."""
+        self.build()
+        other, tree = Place(KUSPVELI, True, self.root), self.notes / "laid"
+        crates = {"crates.txt": f"{CRATES}kuspveli_program: low\n", "crates/kuspveli_program/src/lib.rt": "fn f() {}\n"}
+        write_files(self.root, crates)
+        write_files(tree, {"crates/kuspveli_program/out/kuspveli_program": "#!/bin/sh\n"})
+        with mock.patch.object(cli, "stamp_of", return_value="sum"):
+            cli.take_program(other, tree, mock.Mock(line="kit 1"), 1.0, self.place.log)
+        self.assertEqual(other.log.read_text(), self.place.log.read_text())
+        self.assertLessEqual(other.log.stat().st_mtime_ns, other.stamp_file.stat().st_mtime_ns)
 
     def test_again(self) -> None:
         """What is built of the same sources stays; an edit, another kit and another program build it anew."""
