@@ -13,6 +13,3 @@ pub use fault::TableFault;
 pub use font_fault::FontFault;
 pub use room::Room;
 pub use table_names::FontTable;
-
-#[cfg(test)]
-mod tests;

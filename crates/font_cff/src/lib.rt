@@ -11,6 +11,3 @@ pub mod outlines;
 pub mod selects;
 
 pub use glyphs::{CffGlyphs, CffParts, read_cff};
-
-#[cfg(test)]
-mod tests;

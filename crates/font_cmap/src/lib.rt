@@ -13,6 +13,3 @@ pub mod variations;
 
 pub use characters::read_characters;
 pub use variations::read_variations;
-
-#[cfg(test)]
-mod tests;

@@ -14,6 +14,3 @@ pub use coverage::{
 pub use offsets::{CoverageReader, TableReader, read_at_offset, read_list, read_tables};
 pub use rows::{first_rows, push_above};
 pub use words::{push_words, read_word_rows, read_words};
-
-#[cfg(test)]
-mod tests;

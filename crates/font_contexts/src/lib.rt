@@ -10,6 +10,3 @@ pub mod rules;
 pub mod sets;
 
 pub use contexts::read_context;
-
-#[cfg(test)]
-mod tests;

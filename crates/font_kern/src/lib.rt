@@ -14,6 +14,3 @@ pub mod subtables;
 pub mod systems;
 
 pub use gpos::with_kerning;
-
-#[cfg(test)]
-mod tests;

@@ -12,6 +12,3 @@ pub mod tagged;
 pub mod variations;
 
 pub use definition::read_gdef;
-
-#[cfg(test)]
-mod tests;

@@ -15,6 +15,3 @@ pub use cursive::read_cursive_pos;
 pub use marks::{read_mark_base_pos, read_mark_lig_pos};
 pub use pair::read_pair_pos;
 pub use single::read_single_pos;
-
-#[cfg(test)]
-mod tests;

@@ -12,6 +12,3 @@ pub use ligature::read_ligature_subst;
 pub use reverse::read_reverse_subst;
 pub use sequence::{read_alternate_subst, read_multiple_subst};
 pub use single::read_single_subst;
-
-#[cfg(test)]
-mod tests;

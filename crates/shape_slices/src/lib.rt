@@ -4,6 +4,4 @@
 
 pub mod fitting;
 pub mod laws;
-#[cfg(test)]
-mod rows;
 pub mod slices;

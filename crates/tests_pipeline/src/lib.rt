@@ -1,5 +1,6 @@
-//! Tests of shaping with and without plans, with a shaper of their own, and of the conditions under which canonically
-//! equivalent texts shape alike; shapers whose rules the laws of `script_plan` refuse.
+//! Tests of shaping with and without plans, with a shaper of their own, of the conditions under which canonically
+//! equivalent texts shape alike, and of the bytes that glyphs come from; shapers whose rules the laws of `script_plan`
+//! refuse.
 //!
 //! Each module of tests has a line `#[cfg(test)]`, since the gate also proves the crate without its tests: with none of
 //! these lines it would prove every function twice.
@@ -30,3 +31,5 @@ pub mod refused_shapers;
 mod rows;
 #[cfg(test)]
 mod shaped;
+#[cfg(test)]
+mod slices;

@@ -1,10 +1,10 @@
 //! GDEF, and the lists of a layout table, by bytes written out.
-use crate::definition::read_gdef;
-use crate::header::layout_header;
-use crate::lists::read_lists;
 use buffer_common::tag::{Tag, TagExt};
 use font_bytes::fault::TableFault;
 use font_bytes::room::Room;
+use font_lists::definition::read_gdef;
+use font_lists::header::layout_header;
+use font_lists::lists::read_lists;
 use std::process::Abort;
 use std::test::Fail;
 

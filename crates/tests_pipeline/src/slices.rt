@@ -1,8 +1,8 @@
 //! The slices of a few texts by hand: clusters of glyphs, and each run with its bytes.
-use crate::fitting::slices_fit;
-use crate::slices::{SourceSlice, source_slices};
 use buffer_wrappers::glyphs::GlyphBuffer;
 use buffer_wrappers::unicode_buffer::UnicodeBuffer;
+use shape_slices::fitting::slices_fit;
+use shape_slices::slices::{SourceSlice, source_slices};
 use std::alloc::{AllocError, Global};
 use std::test::Fail;
 

@@ -1,10 +1,10 @@
 //! Coverage and class definition tables, by the examples of the OpenType specification (chapter 2, examples 5, 6 and 8)
 //! and by damaged ones.
-use crate::class_definition::read_class_definition;
-use crate::coverage::{read_coverage, read_coverage_glyphs};
-use crate::offsets::{CoverageReader, read_list};
 use font_bytes::fault::TableFault;
 use font_bytes::room::Room;
+use font_common::class_definition::read_class_definition;
+use font_common::coverage::{read_coverage, read_coverage_glyphs};
+use font_common::offsets::{CoverageReader, read_list};
 use std::alloc::Global;
 use std::process::Abort;
 use std::test::Fail;

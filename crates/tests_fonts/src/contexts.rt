@@ -1,7 +1,7 @@
 //! Contexts of each format, by bytes written out.
-use crate::contexts::read_context;
 use font_bytes::fault::TableFault;
 use font_bytes::room::Room;
+use font_contexts::contexts::read_context;
 use layout_tables::context::{ContextSubtable, SequenceRule};
 use std::process::Abort;
 use std::test::Fail;

@@ -1,8 +1,8 @@
 //! Numbers, directories and room, by bytes written out.
-use crate::directory::font_table;
-use crate::fault::TableFault;
-use crate::room::Room;
-use crate::words::{long_at, signed_word, word_at};
+use font_bytes::directory::font_table;
+use font_bytes::fault::TableFault;
+use font_bytes::room::Room;
+use font_bytes::words::{long_at, signed_word, word_at};
 use std::process::Abort;
 
 /// `cmap`

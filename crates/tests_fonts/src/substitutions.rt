@@ -1,10 +1,10 @@
 //! Subtables, by the examples of the OpenType specification (chapter GSUB, examples 2 to 6) and by what fonts leave out.
-use crate::ligature::read_ligature_subst;
-use crate::reverse::read_reverse_subst;
-use crate::sequence::{read_alternate_subst, read_multiple_subst};
-use crate::single::read_single_subst;
 use font_bytes::fault::TableFault;
 use font_bytes::room::Room;
+use font_substitution::ligature::read_ligature_subst;
+use font_substitution::reverse::read_reverse_subst;
+use font_substitution::sequence::{read_alternate_subst, read_multiple_subst};
+use font_substitution::single::read_single_subst;
 use layout_tables::ligature::LigatureSet;
 use layout_tables::single_subst::SingleSubst;
 use std::alloc::Global;

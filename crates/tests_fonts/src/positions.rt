@@ -1,11 +1,11 @@
 //! Subtables, by an example of the OpenType specification (chapter GPOS, example 2), by bytes written out after its formats,
 //! and by what fonts leave out.
-use crate::cursive::read_cursive_pos;
-use crate::marks::{read_mark_base_pos, read_mark_lig_pos};
-use crate::pair::read_pair_pos;
-use crate::single::read_single_pos;
 use font_bytes::fault::TableFault;
 use font_bytes::room::Room;
+use font_positioning::cursive::read_cursive_pos;
+use font_positioning::marks::{read_mark_base_pos, read_mark_lig_pos};
+use font_positioning::pair::read_pair_pos;
+use font_positioning::single::read_single_pos;
 use layout_tables::mark::{MarkBasePos, MarkLigPos};
 use layout_tables::pair::{PairPos, PairValues};
 use layout_tables::single_pos::SinglePos;

@@ -1,10 +1,10 @@
 //! Subtables: the example of the OpenType specification (chapter 5, cmap, format 4), one of the other formats each, and
 //! variation sequences.
-use crate::encoded::row_glyph;
-use crate::{read_characters, read_variations};
 use buffer_rows::PagedRows;
 use font_bytes::fault::TableFault;
 use font_bytes::room::Room;
+use font_cmap::encoded::row_glyph;
+use font_cmap::{read_characters, read_variations};
 use layout_face::parts::CharacterRow;
 use std::alloc::Global;
 use std::process::Abort;

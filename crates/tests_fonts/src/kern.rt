@@ -1,8 +1,8 @@
 //! Tables `kern` by bytes written out, with values worked out by hand.
-use crate::gpos::with_kerning;
 use buffer_common::tag::Tag;
 use font_bytes::fault::TableFault;
 use font_bytes::room::Room;
+use font_kern::gpos::with_kerning;
 use layout_face::parts::CharacterRow;
 use layout_face::positioning::{PositioningSubtables, PositioningTable};
 use layout_tables::pair::{PairPos, PairValues};

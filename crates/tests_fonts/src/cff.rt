@@ -1,9 +1,9 @@
 //! Tables whose boxes and names are fontTools', the example of TN 5176 (appendix D), and tables that are refused.
-use crate::charset::read_charset;
-use crate::glyphs::{CffGlyphs, CffParts, read_cff};
-use crate::selects::read_selects;
 use font_bytes::fault::TableFault;
 use font_bytes::room::Room;
+use font_cff::charset::read_charset;
+use font_cff::glyphs::{CffGlyphs, CffParts, read_cff};
+use font_cff::selects::read_selects;
 use font_metrics::GlyphBox;
 use std::alloc::Global;
 use std::process::Abort;
