@@ -8,43 +8,32 @@ use std::process::Abort;
 /// `cmap`
 const CMAP: u32 = 0x636d6170;
 
-/// A font of one table of four bytes, in which offsets count from a base.
-fn font(base: u8) -> [u8; 32] {
-    [
-        0,
-        1,
-        0,
-        0,
-        0,
-        1,
-        0,
-        16,
-        0,
-        0,
-        0,
-        0,
-        0x63,
-        0x6d,
-        0x61,
-        0x70,
-        0,
-        0,
-        0,
-        0,
-        0,
-        0,
-        0,
-        base.wrapping_add(28),
-        0,
-        0,
-        0,
-        4,
-        1,
-        2,
-        3,
-        4,
-    ]
-}
+/// A font of one table of four bytes.
+static FONT: [u8; 32] = [
+    0, 1, 0, 0, 0, 1, 0, 16, 0, 0, 0, 0, 0x63, 0x6d, 0x61, 0x70, 0, 0, 0, 0, 0, 0, 0, 28, 0, 0, 0,
+    4, 1, 2, 3, 4,
+];
+
+/// A collection of that font, whose offsets count from the file's start, and of one past the file's end.
+static COLLECTION: [u8; 52] = [
+    0x74, 0x74, 0x63, 0x66, 0, 1, 0, 0, 0, 0, 0, 2, 0, 0, 0, 20, 0, 0, 0, 99, // header
+    0, 1, 0, 0, 0, 1, 0, 16, 0, 0, 0, 0, 0x63, 0x6d, 0x61, 0x70, 0, 0, 0, 0, 0, 0, 0, 48, 0, 0, 0,
+    4, 1, 2, 3, 4,
+];
+
+/// The first and the end index of the font's bytes that are the file, the index of a font, and the fault.
+static REFUSED_FONTS: &[(usize, usize, usize, TableFault)] = &[
+    (0, 32, 1, TableFault::Index),
+    (0, 31, 0, TableFault::Short(28)),
+    (0, 27, 0, TableFault::Short(12)),
+    (0, 11, 0, TableFault::Short(0)),
+    (1, 32, 0, TableFault::Kind(0)),
+];
+
+static REFUSED_COLLECTIONS: &[(usize, usize, usize, TableFault)] = &[
+    (0, 52, 1, TableFault::Short(99)),
+    (0, 52, 2, TableFault::Index),
+];
 
 #[test]
 fn numbers_are_big_endian(rt: HostRuntime) {
@@ -76,28 +65,26 @@ fn is_refused(bytes: &[u8], from: usize, to: usize, index: usize, fault: TableFa
     }
 }
 
+fn are_refused(rt: &impl Abort, bytes: &[u8], rows: &[(usize, usize, usize, TableFault)]) {
+    for (from, to, index, fault) in rows {
+        assert!(rt;
+            is_refused(bytes, *from, *to, *index, *fault),
+            "font {index} of {from} to {to}"
+        );
+    }
+}
+
 #[test]
 fn tables_are_found(rt: HostRuntime) {
-    let bytes = font(0);
-    has_table(&rt, &bytes, 0);
-    assert!(rt; matches!(font_table(&bytes, 0, 7), Ok(None)));
-    assert!(rt; is_refused(&bytes, 0, 32, 1, TableFault::Index));
-    assert!(rt; is_refused(&bytes, 0, 31, 0, TableFault::Short(28)));
-    assert!(rt; is_refused(&bytes, 0, 27, 0, TableFault::Short(12)));
-    assert!(rt; is_refused(&bytes, 0, 11, 0, TableFault::Short(0)));
-    assert!(rt; is_refused(&bytes, 1, 32, 0, TableFault::Kind(0)));
+    has_table(&rt, &FONT, 0);
+    assert!(rt; matches!(font_table(&FONT, 0, 7), Ok(None)));
+    are_refused(&rt, &FONT, REFUSED_FONTS);
 }
 
 #[test]
 fn fonts_of_a_collection_are_found(rt: HostRuntime) {
-    let mut bytes = [0; 52];
-    bytes[..20].copy_from_slice(&[
-        0x74, 0x74, 0x63, 0x66, 0, 1, 0, 0, 0, 0, 0, 2, 0, 0, 0, 20, 0, 0, 0, 99,
-    ]);
-    bytes[20..].copy_from_slice(&font(20));
-    has_table(&rt, &bytes, 0);
-    assert!(rt; is_refused(&bytes, 0, 52, 1, TableFault::Short(99)));
-    assert!(rt; is_refused(&bytes, 0, 52, 2, TableFault::Index));
+    has_table(&rt, &COLLECTION, 0);
+    are_refused(&rt, &COLLECTION, REFUSED_COLLECTIONS);
 }
 
 #[test]

@@ -8,57 +8,73 @@ use font_positioning::pair::read_pair_pos;
 use font_positioning::single::read_single_pos;
 use layout_tables::mark::{MarkBasePos, MarkLigPos};
 use layout_tables::pair::{PairPos, PairValues};
-use layout_tables::single_pos::SinglePos;
 use layout_tables::value::{Anchor, ValueRecord};
 use std::alloc::Global;
+use std::process::Abort;
 use std::test::Fail;
 
 const ROOM: usize = 4_194_304;
 
-fn single(alloc: Global, table: &[u8]) -> Result<SinglePos, Fail> {
-    match read_single_pos(alloc, table, 0, &mut Room { left: ROOM }) {
-        Ok(Some(subtable)) => Ok(subtable),
-        Ok(None) => Err("no subtable".into()),
-        Err(_fault) => Err("refused".into()),
-    }
-}
+/// A glyph, and x placement, y placement, x advance and y advance of its value record, if it has one.
+type GlyphValue = (u16, Option<(i16, i16, i16, i16)>);
 
-fn is_value(value: Option<ValueRecord>, x: i16, y: i16, x_advance: i16, y_advance: i16) -> bool {
-    match value {
-        Some(v) => {
-            v.x_placement == x
-                && v.y_placement == y
-                && v.x_advance == x_advance
-                && v.y_advance == y_advance
+/// Format 1: one value record for all glyphs.
+static SHARED_VALUE: [u8; 18] = [
+    0, 1, 0, 8, 0, 2, 0xff, 0xb0, 0, 2, 0, 1, 1, 0xb3, 1, 0xbc, 0, 0,
+];
+
+/// Format 2 with value format 0x0055: xPlacement, xAdvance, and the offsets of two devices, which are passed over.
+static VALUES: [u8; 32] = [
+    0, 2, 0, 24, 0, 0x55, 0, 2, 0, 50, 0, 40, 0, 1, 0, 1, 0xff, 0xff, 0, 7, 0, 0, 0, 0, 0, 1, 0, 2,
+    0, 3, 0, 4,
+];
+
+/// Whether a value record is this one.
+fn is_value(found: Option<ValueRecord>, wanted: Option<(i16, i16, i16, i16)>) -> bool {
+    match (found, wanted) {
+        (None, None) => true,
+        (Some(value), Some((x, y, x_advance, y_advance))) => {
+            value.x_placement == x
+                && value.y_placement == y
+                && value.x_advance == x_advance
+                && value.y_advance == y_advance
         }
-        None => false,
+        _ => false,
+    }
+}
+
+/// Whether glyphs have these values.
+fn has_values(alloc: Global, table: &[u8], rows: &[GlyphValue]) -> bool {
+    match read_single_pos(alloc, table, 0, &mut Room { left: ROOM }) {
+        Ok(Some(subtable)) => {
+            let mut is_equal = true;
+            for (glyph, value) in rows {
+                is_equal &= is_value(subtable.value(*glyph), *value);
+            }
+            is_equal
+        }
+        _ => false,
     }
 }
 
 #[test]
-fn values_of_all_glyphs_are_read(rt: HostRuntime) -> Result<(), Fail> {
-    let table = [
-        0, 1, 0, 8, 0, 2, 0xff, 0xb0, 0, 2, 0, 1, 1, 0xb3, 1, 0xbc, 0, 0,
+fn values_of_all_glyphs_are_read(rt: HostRuntime) {
+    let rows = [
+        (0x1b3, Some((0, -80, 0, 0))),
+        (0x1bc, Some((0, -80, 0, 0))),
+        (0x1bd, None),
     ];
-    let subtable = single(rt.alloc(), &table)?;
-    assert!(rt; is_value(subtable.value(0x1b3), 0, -80, 0, 0));
-    assert!(rt; is_value(subtable.value(0x1bc), 0, -80, 0, 0));
-    assert!(rt; subtable.value(0x1bd).is_none());
-    Ok(())
+    assert!(rt; has_values(rt.alloc(), &SHARED_VALUE, &rows));
 }
 
 #[test]
-fn values_of_each_glyph_are_read(rt: HostRuntime) -> Result<(), Fail> {
-    // Of format 0x0055: xPlacement, xAdvance, and the offsets of two devices, which are passed over.
-    let table = [
-        0, 2, 0, 24, 0, 0x55, 0, 2, 0, 50, 0, 40, 0, 1, 0, 1, 0xff, 0xff, 0, 7, 0, 0, 0, 0, 0, 1,
-        0, 2, 0, 3, 0, 4,
+fn values_of_each_glyph_are_read(rt: HostRuntime) {
+    let rows = [
+        (3, Some((50, 0, 40, 0))),
+        (4, Some((-1, 0, 7, 0))),
+        (5, None),
     ];
-    let subtable = single(rt.alloc(), &table)?;
-    assert!(rt; is_value(subtable.value(3), 50, 0, 40, 0));
-    assert!(rt; is_value(subtable.value(4), -1, 0, 7, 0));
-    assert!(rt; subtable.value(5).is_none());
-    Ok(())
+    assert!(rt; has_values(rt.alloc(), &VALUES, &rows));
 }
 
 #[test]
@@ -103,56 +119,76 @@ fn pair(alloc: Global, table: &[u8], first: u16, second: u16) -> Option<PairValu
     }
 }
 
-fn is_pair(values: Option<PairValues>, advance: i16, second: Option<i16>) -> bool {
-    match values {
-        None => false,
-        Some(v) => {
-            v.first.x_advance == advance
-                && match (v.second, second) {
-                    (None, None) => true,
-                    (Some(other), Some(placement)) => other.x_placement == placement,
-                    _ => false,
-                }
+/// Two glyphs, and the x advance of the first one's value record with the x placement of the second one's, where they have
+/// records.
+type GlyphPair = (u16, u16, Option<(i16, Option<i16>)>);
+
+/// Two sets; the second glyphs of the first fall, and the second set has a pair twice.
+static SETS: [u8; 50] = [
+    0, 1, 0, 42, 0, 4, 0, 1, 0, 2, 0, 14, 0, 28, 0, 2, 0, 9, 0, 1, 0, 2, 0, 8, 0, 3, 0, 4, 0, 2, 0,
+    8, 0, 5, 0, 6, 0, 8, 0, 7, 0, 8, 0, 1, 0, 2, 0, 0x30, 0, 0x31,
+];
+
+static SETS_PAIRS: &[GlyphPair] = &[
+    (0x30, 8, Some((3, Some(4)))),
+    (0x30, 9, Some((1, Some(2)))),
+    (0x31, 8, Some((5, Some(6)))),
+    (0x31, 9, None),
+];
+
+/// Without a second format there is no second record, and a null set has no pair.
+static NULL_SET: [u8; 28] = [
+    0, 1, 0, 20, 0, 4, 0, 0, 0, 2, 0, 14, 0, 0, 0, 1, 0, 9, 0, 1, 0, 1, 0, 2, 0, 0x30, 0, 0x31,
+];
+
+static NULL_SET_PAIRS: &[GlyphPair] = &[(0x30, 9, Some((1, None))), (0x31, 9, None)];
+
+/// Glyphs 1 to 3 are covered: 2 is of class 1, and 3 of class 2, which has no records. Second glyphs: 7 is of class 1, and
+/// 8 of class 2, which has no records and so is class 0.
+static CLASSES: [u8; 54] = [
+    0, 2, 0, 24, 0, 4, 0, 0, 0, 34, 0, 44, 0, 2, 0, 2, 0, 1, 0, 2, 0, 3, 0, 4, 0, 2, 0, 1, 0, 1, 0,
+    3, 0, 0, 0, 1, 0, 2, 0, 2, 0, 1, 0, 2, 0, 1, 0, 7, 0, 2, 0, 1, 0, 2,
+];
+
+static CLASSES_PAIRS: &[GlyphPair] = &[
+    (1, 6, Some((1, None))),
+    (1, 7, Some((2, None))),
+    (2, 6, Some((3, None))),
+    (2, 7, Some((4, None))),
+    (2, 8, Some((3, None))),
+    (3, 6, None),
+    (4, 6, None),
+];
+
+fn is_pair(found: Option<PairValues>, wanted: Option<(i16, Option<i16>)>) -> bool {
+    match (found, wanted) {
+        (None, None) => true,
+        (Some(values), Some((advance, placement))) => {
+            values.first.x_advance == advance
+                && values.second.map(|value| value.x_placement) == placement
         }
+        _ => false,
+    }
+}
+
+fn has_pairs(rt: &impl Abort, alloc: Global, table: &[u8], pairs: &[GlyphPair]) {
+    for (first, second, wanted) in pairs {
+        assert!(rt;
+            is_pair(pair(alloc, table, *first, *second), *wanted),
+            "{first} {second}"
+        );
     }
 }
 
 #[test]
 fn pairs_of_glyphs_are_read(rt: HostRuntime) {
-    // Two sets; the second glyphs of the first fall, and the second set has a pair twice.
-    let table = [
-        0, 1, 0, 42, 0, 4, 0, 1, 0, 2, 0, 14, 0, 28, 0, 2, 0, 9, 0, 1, 0, 2, 0, 8, 0, 3, 0, 4, 0,
-        2, 0, 8, 0, 5, 0, 6, 0, 8, 0, 7, 0, 8, 0, 1, 0, 2, 0, 0x30, 0, 0x31,
-    ];
-    let alloc = rt.alloc();
-    assert!(rt; is_pair(pair(alloc, &table, 0x30, 8), 3, Some(4)));
-    assert!(rt; is_pair(pair(alloc, &table, 0x30, 9), 1, Some(2)));
-    assert!(rt; is_pair(pair(alloc, &table, 0x31, 8), 5, Some(6)));
-    assert!(rt; pair(alloc, &table, 0x31, 9).is_none());
-    // Without a second format there is no second record, and a null set has no pair.
-    let table = [
-        0, 1, 0, 20, 0, 4, 0, 0, 0, 2, 0, 14, 0, 0, 0, 1, 0, 9, 0, 1, 0, 1, 0, 2, 0, 0x30, 0, 0x31,
-    ];
-    assert!(rt; is_pair(pair(alloc, &table, 0x30, 9), 1, None));
-    assert!(rt; pair(alloc, &table, 0x31, 9).is_none());
+    has_pairs(&rt, rt.alloc(), &SETS, SETS_PAIRS);
+    has_pairs(&rt, rt.alloc(), &NULL_SET, NULL_SET_PAIRS);
 }
 
 #[test]
 fn pairs_of_classes_are_read(rt: HostRuntime) {
-    // Glyphs 1 to 3 are covered: 2 is of class 1, and 3 of class 2, which has no records. Second glyphs: 7 is of class 1,
-    // and 8 of class 2, which has no records and so is class 0.
-    let table = [
-        0, 2, 0, 24, 0, 4, 0, 0, 0, 34, 0, 44, 0, 2, 0, 2, 0, 1, 0, 2, 0, 3, 0, 4, 0, 2, 0, 1, 0,
-        1, 0, 3, 0, 0, 0, 1, 0, 2, 0, 2, 0, 1, 0, 2, 0, 1, 0, 7, 0, 2, 0, 1, 0, 2,
-    ];
-    let alloc = rt.alloc();
-    assert!(rt; is_pair(pair(alloc, &table, 1, 6), 1, None));
-    assert!(rt; is_pair(pair(alloc, &table, 1, 7), 2, None));
-    assert!(rt; is_pair(pair(alloc, &table, 2, 6), 3, None));
-    assert!(rt; is_pair(pair(alloc, &table, 2, 7), 4, None));
-    assert!(rt; is_pair(pair(alloc, &table, 2, 8), 3, None));
-    assert!(rt; pair(alloc, &table, 3, 6).is_none());
-    assert!(rt; pair(alloc, &table, 4, 6).is_none());
+    has_pairs(&rt, rt.alloc(), &CLASSES, CLASSES_PAIRS);
 }
 
 fn is_anchor(anchor: Option<Anchor>, x: i16, y: i16) -> bool {

@@ -6,53 +6,70 @@ use font_substitution::reverse::read_reverse_subst;
 use font_substitution::sequence::{read_alternate_subst, read_multiple_subst};
 use font_substitution::single::read_single_subst;
 use layout_tables::ligature::LigatureSet;
-use layout_tables::single_subst::SingleSubst;
 use std::alloc::Global;
 use std::process::Abort;
 use std::test::Fail;
 
 const ROOM: usize = 4_194_304;
 
-fn single(alloc: Global, table: &[u8]) -> Result<SingleSubst, Fail> {
+/// Single substitutions of format 1: glyphs and their substitutes.
+static DIFFERENCES: &[(&[u8], &[(u16, Option<u16>)])] = &[
+    (
+        &[0, 1, 0, 6, 0, 0xc0, 0, 2, 0, 1, 0, 0x4e, 0, 0x57, 0, 0],
+        &[(0x4e, Some(0x10e)), (0x57, Some(0x117)), (0x58, None)],
+    ),
+    // Past 65,535 it begins again.
+    (
+        &[0, 1, 0, 6, 0xff, 0xff, 0, 1, 0, 1, 0, 0x4e],
+        &[(0x4e, Some(0x4d))],
+    ),
+];
+
+/// Single substitutions of format 2: glyphs and their substitutes.
+static SUBSTITUTES: &[(&[u8], &[(u16, Option<u16>)])] = &[
+    (
+        &[
+            0, 2, 0, 14, 0, 4, 1, 0x31, 1, 0x35, 1, 0x3e, 1, 0x43, 0, 1, 0, 4, 0, 0x3c, 0, 0x40, 0,
+            0x4b, 0, 0x4f,
+        ],
+        &[(0x3c, Some(0x131)), (0x4b, Some(0x13e)), (0x3d, None)],
+    ),
+    // A repeated glyph has its first record, and a glyph without a record no row.
+    (
+        &[0, 2, 0, 10, 0, 2, 0, 7, 0, 8, 0, 1, 0, 3, 0, 5, 0, 5, 0, 6],
+        &[(5, Some(7)), (6, None)],
+    ),
+    // A null coverage has no glyph.
+    (&[0, 2, 0, 0, 0, 1, 0, 7], &[(0, None)]),
+];
+
+fn has_substitutes(alloc: Global, table: &[u8], rows: &[(u16, Option<u16>)]) -> bool {
     match read_single_subst(alloc, table, 0, &mut Room { left: ROOM }) {
-        Ok(Some(subtable)) => Ok(subtable),
-        Ok(None) => Err("no subtable".into()),
-        Err(_fault) => Err("refused".into()),
+        Ok(Some(subtable)) => {
+            let mut is_equal = true;
+            for (glyph, substitute) in rows {
+                is_equal &= subtable.substitute(*glyph) == *substitute;
+            }
+            is_equal
+        }
+        _ => false,
+    }
+}
+
+fn are_substituted(rt: &impl Abort, alloc: Global, rows: &[(&[u8], &[(u16, Option<u16>)])]) {
+    for (row, (table, glyphs)) in rows.iter().enumerate() {
+        assert!(rt; has_substitutes(alloc, table, glyphs), "{row}");
     }
 }
 
 #[test]
-fn differences_are_added(rt: HostRuntime) -> Result<(), Fail> {
-    let table = [0, 1, 0, 6, 0, 0xc0, 0, 2, 0, 1, 0, 0x4e, 0, 0x57, 0, 0];
-    let subtable = single(rt.alloc(), &table)?;
-    assert_eq!(rt; subtable.substitute(0x4e), Some(0x10e));
-    assert_eq!(rt; subtable.substitute(0x57), Some(0x117));
-    assert_eq!(rt; subtable.substitute(0x58), None);
-    let wrapped = [0, 1, 0, 6, 0xff, 0xff, 0, 1, 0, 1, 0, 0x4e];
-    let subtable = single(rt.alloc(), &wrapped)?;
-    assert_eq!(rt; subtable.substitute(0x4e), Some(0x4d));
-    Ok(())
+fn differences_are_added(rt: HostRuntime) {
+    are_substituted(&rt, rt.alloc(), DIFFERENCES);
 }
 
 #[test]
-fn substitutes_are_listed(rt: HostRuntime) -> Result<(), Fail> {
-    let table = [
-        0, 2, 0, 14, 0, 4, 1, 0x31, 1, 0x35, 1, 0x3e, 1, 0x43, 0, 1, 0, 4, 0, 0x3c, 0, 0x40, 0,
-        0x4b, 0, 0x4f,
-    ];
-    let subtable = single(rt.alloc(), &table)?;
-    assert_eq!(rt; subtable.substitute(0x3c), Some(0x131));
-    assert_eq!(rt; subtable.substitute(0x4b), Some(0x13e));
-    assert_eq!(rt; subtable.substitute(0x3d), None);
-    // A repeated glyph has its first record, a glyph without a record no row, and a null coverage no glyph.
-    let repeated = [0, 2, 0, 10, 0, 2, 0, 7, 0, 8, 0, 1, 0, 3, 0, 5, 0, 5, 0, 6];
-    let subtable = single(rt.alloc(), &repeated)?;
-    assert_eq!(rt; subtable.substitute(5), Some(7));
-    assert_eq!(rt; subtable.substitute(6), None);
-    let null = [0, 2, 0, 0, 0, 1, 0, 7];
-    let subtable = single(rt.alloc(), &null)?;
-    assert_eq!(rt; subtable.substitute(0), None);
-    Ok(())
+fn substitutes_are_listed(rt: HostRuntime) {
+    are_substituted(&rt, rt.alloc(), SUBSTITUTES);
 }
 
 #[test]
