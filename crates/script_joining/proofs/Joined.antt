@@ -40,13 +40,13 @@ kept_types t (x ∷ xs) = rw (kept_type (type_of_item t x), kept_types t xs) ref
 -- ---- forms
 
 -- the nearest letter of two texts, one after the other
-nearest_both : (ts us : List JoiningType) → nearest (ts ++ us) ≡ nearest_or (nearest us) ts
+pub nearest_both : (ts us : List JoiningType) → nearest (ts ++ us) ≡ nearest_or (nearest us) ts
 nearest_both [] us = refl
 nearest_both (t ∷ ts) us =
     elim (is_letter t) as (λ b. unwrap_or (if b then Some t else find is_letter (ts ++ us)) U ≡ unwrap_or (if b then Some t else find is_letter ts) (nearest us))
     [ true ↦ refl | false ↦ nearest_both ts us ]
 
-nearest_front : (t : JoiningType) (ts : List JoiningType) → nearest (t ∷ ts) ≡ nearest_past (nearest ts) t
+pub nearest_front : (t : JoiningType) (ts : List JoiningType) → nearest (t ∷ ts) ≡ nearest_past (nearest ts) t
 nearest_front t ts = elim (is_letter t) as (λ b. unwrap_or (if b then Some t else find is_letter ts) U ≡ (if b then t else nearest ts)) [ true ↦ refl | false ↦ refl ]
 
 -- items with given forms
@@ -188,7 +188,7 @@ flagless_mask [] form e = refl
 flagless_mask (m ∷ ms) zero e = e.0
 flagless_mask (m ∷ ms) (suc form) e = flagless_mask ms form e.1
 
-joined_origin : (masks : List ℕ) (g : hb_glyph_info_t) → AreFlagless masks → origin_of (glyph_joined masks g) ≡ origin_of g
+pub joined_origin : (masks : List ℕ) (g : hb_glyph_info_t) → AreFlagless masks → origin_of (glyph_joined masks g) ≡ origin_of g
 joined_origin masks g e = ap (λ n. record { cluster = g.cluster; flags = n }) (and_or_apart 7 g.mask (mask_of masks g.auxiliary) (flagless_mask masks g.auxiliary e))
 
 masked_origins : (masks : List ℕ) (gs : List hb_glyph_info_t) → AreFlagless masks → origins (map (glyph_joined masks) gs) ≡ origins gs
@@ -201,7 +201,7 @@ all_origins mongolian masks before after gs e =
 
 -- ---- the stage
 
-same_many : (gs hs : List hb_glyph_info_t) → origins gs ≡ origins hs → length gs ≡ length hs
+pub same_many : (gs hs : List hb_glyph_info_t) → origins gs ≡ origins hs → length gs ≡ length hs
 same_many gs hs e = sym (length-map gs origin_of) ∙ ap (λ (os : List Origin). length os) e ∙ length-map hs origin_of
 
 -- the types were kept, flags set between letters, and the letters joined

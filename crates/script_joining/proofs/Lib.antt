@@ -1,3 +1,4 @@
 pub mod Formed
 pub mod Marked
 pub mod Joined
+pub mod Walked

@@ -141,7 +141,7 @@ there_suc [] i x e = cc
 there_suc (y ∷ xs) zero x e = ap (λ z. z ∷ xs) (sym (some_same y x (sym e)))
 there_suc (y ∷ xs) (suc i) x e = there_suc xs i x e
 
-after_next : (before : JoiningType) (last : Option Letter) (t : JoiningType) (at : ℕ) → IsEarlier last at → IsEarlier (letter_after before last t at) (at + 1)
+pub after_next : (before : JoiningType) (last : Option Letter) (t : JoiningType) (at : ℕ) → IsEarlier last at → IsEarlier (letter_after before last t at) (at + 1)
 after_next before last t at b = elim (is_letter t) as (λ c. IsEarlier (if c then Some (record { at = at; joining = t; before = before }) else last) (at + 1)) [ true ↦ omega arith | false ↦ still_after last at b ]
 
 pub next_flagged : (from s t : Sides) (start : JoiningType) (at : ℕ) (before : JoiningType) (last : Option Letter) (joining : JoiningType) → Some joining ≡ slice_get (map type_of_typed (items_of s)) at

@@ -4,4 +4,5 @@ pub mod Forms
 pub mod Joining
 pub mod Glyphs
 pub mod Flagged
+pub mod Walked
 pub mod Laws

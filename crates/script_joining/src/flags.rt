@@ -49,7 +49,7 @@ fn type_at(buffer: &hb_buffer_t, at: usize) -> hb_arabic_joining_type_t
     type_kept(&buffer.info_slice()[at])
 }
 
-fn letter_after(
+pub(crate) fn letter_after(
     before: hb_arabic_joining_type_t,
     last: Option<Letter>,
     joining: hb_arabic_joining_type_t,
@@ -71,7 +71,7 @@ fn letter_after(
 /// Flags a letter and the previous letter of the text; the first one by `before`, the type of the nearest letter of the
 /// context.
 #[tactic(auto, using(buffer_stages::proofs::Lemmas::Happened::nothing_happens))]
-fn flag_after(
+pub(crate) fn flag_after(
     before: hb_arabic_joining_type_t,
     last: Option<Letter>,
     joining: hb_arabic_joining_type_t,

@@ -2,7 +2,7 @@
 ghost use Rattle.std.specs.Prelude.{◌≡◌, None, find, map};
 ghost use Rattle.std.specs.Option.{option_map};
 ghost use Rattle.buffer_glyphs.specs.Items.{item_of};
-ghost use Rattle.script_joining.specs.Glyphs.{glyph_formed, glyph_joined, glyphs_copied, glyphs_formed, glyphs_settled, mask_of, nearest_or, type_kept};
+ghost use Rattle.script_joining.specs.Glyphs.{glyph_formed, glyph_joined, glyphs_copied, glyphs_formed, mask_of, nearest_or, type_kept};
 ghost use Rattle.script_joining.specs.Forms.{letter_form};
 ghost use Rattle.script_joining.specs.Joining.{form_after, is_letter, is_mongolian_selector};
 
@@ -11,20 +11,19 @@ use crate::types::{is_letter, nearest_past, type_kept};
 use buffer_glyphs::info::{hb_glyph_info_t, hb_mask_t};
 use script_categories::hb_arabic_joining_type_t;
 
-/// Sets the forms of glyphs that hold their joining types, by the nearest letters before and after them, and adds the
-/// masks of the forms.
+/// Sets the forms of a Mongolian text's glyphs that hold their joining types, by the nearest letters before and after
+/// them, and adds the masks of the forms.
 pub(crate) fn join(
-    is_mongolian: bool,
     masks: &[hb_mask_t],
     before: hb_arabic_joining_type_t,
     after: hb_arabic_joining_type_t,
     glyphs: &mut [hb_glyph_info_t],
 )
     ensures { glyphs.new
-        ≡ map (glyph_joined masks.now) (glyphs_settled is_mongolian (glyphs_formed before after glyphs.old)) }
+        ≡ map (glyph_joined masks.now) (glyphs_copied None (glyphs_formed before after glyphs.old)) }
 {
     form_letters(before, after, glyphs);
-    settle_selectors(is_mongolian, glyphs);
+    copy_forms(glyphs);
     add_masks(masks, glyphs);
 }
 
@@ -80,14 +79,6 @@ fn first_letter(glyphs: &[hb_glyph_info_t]) -> Option<hb_arabic_joining_type_t>
     Some(type_kept(first))
 }
 
-fn settle_selectors(is_mongolian: bool, glyphs: &mut [hb_glyph_info_t])
-    ensures { glyphs.new ≡ glyphs_settled is_mongolian glyphs.old }
-{
-    if is_mongolian {
-        copy_forms(glyphs);
-    }
-}
-
 /// Copies to each Mongolian variation selector the form of the glyph before it (`mongolian_variation_selectors`).
 #[tactic(auto, using(crate::proofs::Formed::none_copied, crate::proofs::Formed::next_copied, crate::proofs::Formed::all_copied))]
 fn copy_forms(glyphs: &mut [hb_glyph_info_t])
@@ -134,7 +125,7 @@ fn add_mask(masks: &[hb_mask_t], glyph: &mut hb_glyph_info_t)
 }
 
 /// The mask of a form's feature.
-fn mask_of(masks: &[hb_mask_t], form: u8) -> hb_mask_t
+pub(crate) fn mask_of(masks: &[hb_mask_t], form: u8) -> hb_mask_t
     ensures { result ≡ mask_of masks.now form }
 {
     masks.get(form as usize).copied().unwrap_or(0)

@@ -8,6 +8,7 @@ pub mod laws;
 mod letters;
 mod masks;
 mod types;
+mod walking;
 
 pub use forms::letter_form;
 pub use masks::setup_masks_inner;

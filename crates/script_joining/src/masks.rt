@@ -1,14 +1,15 @@
 //! The masks of the features that select the letters' forms, setup_masks (rustybuzz: hb/ot_shaper_arabic.rs).
-ghost use Rattle.std.specs.Prelude.{◌≡◌};
+ghost use Rattle.std.specs.Prelude.{◌≡◌, true};
 ghost use Rattle.buffer_core.specs.Readings.{always};
 ghost use Rattle.buffer_stages.specs.Ready.{IsReady};
 ghost use Rattle.script_joining.specs.Glyphs.{AreFlagless, item_typed};
-ghost use Rattle.script_joining.specs.Joining.{is_mongolian, letters_joined};
+ghost use Rattle.script_joining.specs.Joining.{is_mongolian, letters_joined, letters_with_forms};
 ghost use Rattle.buffer_stages.specs.Stages.{AreMapped, IsFollowed, with_items_mapped};
 
 use crate::flags::flag_neighbours;
 use crate::letters::join;
 use crate::types::{keep_type, nearest_in_context};
+use crate::walking::join_letters;
 use buffer_common::script::{MONGOLIAN, Script};
 use buffer_core::buffer::hb_buffer_t;
 use buffer_glyphs::info::{hb_glyph_info_t, hb_mask_t};
@@ -31,12 +32,25 @@ pub fn setup_masks_inner(
         (letters_joined masks.now script tables.now buffer.old.pre_context buffer.old.post_context)
         buffer.old buffer.new }
 {
+    if is_mongolian(script) {
+        join_mongolian(tables, masks, buffer);
+    } else {
+        join_letters(tables, masks, buffer);
+    }
+}
+
+/// Sets the forms and masks of a Mongolian text, whose selectors get the form of the character before.
+fn join_mongolian(tables: &UnicodeTables, masks: &[hb_mask_t], buffer: &mut hb_buffer_t)
+    requires ready { IsReady buffer.old }
+    requires flagless { AreFlagless masks.now }
+    ensures { IsFollowed (always (letters_with_forms tables.now true masks.now buffer.old.pre_context
+        buffer.old.post_context)) buffer.old buffer.new }
+{
     let before = nearest_in_context(tables, buffer.pre_context());
     let after = nearest_in_context(tables, buffer.post_context());
     keep_types(tables, buffer);
     flag_neighbours(before, buffer);
-    let is_mongolian = is_mongolian(script);
-    join(is_mongolian, masks, before, after, buffer.info_slice_mut());
+    join(masks, before, after, buffer.info_slice_mut());
 }
 
 fn is_mongolian(script: Option<Script>) -> bool
