@@ -1,5 +1,6 @@
 -- A text without default ignorables.
-use Rattle.std.proofs.Common.{ℕ, ◌≡◌, ◌||◌, Bool, true, false, if◌then◌else◌, List, [], ◌∷◌, length, map, refl, sym, ap, ap₂, ◌∙◌, arith}
+use Rattle.std.proofs.Common.{ℕ, ◌≡◌, ◌||◌, ◌&&◌, ◌==◌, Bool, true, false, if◌then◌else◌, List, [], ◌∷◌, length, map, refl, sym, ap, ap₂, ◌∙◌, arith}
+use Rattle.std.specs.Prelude.{bit_and}
 use Rattle.std.specs.List.{list_any}
 use Rattle.std.proofs.lemmas.Bool.{or_parts}
 use Rattle.std.proofs.lemmas.List.{length-map}
@@ -12,13 +13,20 @@ use Rattle.buffer_stages.specs.PositionMaps.{positions_mapped, with_positions_ma
 use Rattle.buffer_stages.specs.Ready.{IsDone, IsReady}
 use Rattle.buffer_stages.specs.Stages.{IsFollowed, with_items_mapped}
 use Rattle.buffer_stages.specs.Lemmas.Written.{read_followed}
-use Rattle.shape_glyphs.specs.Ignorables.{hidden_item}
+use Rattle.shape_glyphs.specs.Ignorables.{hidden_item, is_ignorable_character}
 use Rattle.shape_glyphs.specs.Widths.{ignorable_position, widthless}
 use Rattle.buffer_facts.proofs.Truth.{chosen_second as stays}
 
 any_stripped : (gs : List hb_glyph_info_t) → list_any is_default_ignorable (strip gs) ≡ list_any (λ (g : hb_glyph_info_t). is_default_ignorable (item_of g)) gs
 any_stripped [] = refl
 any_stripped (g ∷ gs) = ap (λ b. is_default_ignorable (item_of g) || b) (any_stripped gs)
+
+-- where no glyph was made of a default ignorable there is none
+pub none_ignorable : (gs : List hb_glyph_info_t) → list_any (λ (g : hb_glyph_info_t). is_ignorable_character (item_of g)) gs ≡ false → false ≡ list_any (λ (g : hb_glyph_info_t). is_default_ignorable (item_of g)) gs
+none_ignorable [] e = refl
+none_ignorable (g ∷ gs) e =
+    let both = or_parts (is_ignorable_character (item_of g)) (list_any (λ (h : hb_glyph_info_t). is_ignorable_character (item_of h)) gs) e in
+    sym (ap₂ (λ a b. (a && bit_and (item_of g).glyph_props 16 == 0) || b) both.0 (sym (none_ignorable gs both.1)))
 
 -- without default ignorables no item is replaced
 items_stay : (glyph : ℕ) (xs : List Item) → list_any is_default_ignorable xs ≡ false → map (hidden_item glyph) xs ≡ xs

@@ -1,5 +1,5 @@
 -- Default ignorable characters, which show no glyph.
-use Rattle.std.specs.Prelude.{ℕ, ◌==◌, Bool, if◌then◌else◌, [], Option, Some, None}
+use Rattle.std.specs.Prelude.{ℕ, ◌==◌, not, Bool, if◌then◌else◌, [], Option, Some, None}
 use Rattle.std.specs.Option.{option_or}
 use Rattle.std.specs.Int.RustNames.{bit_and}
 use Rattle.buffer_common.specs.declared.constants.BufferFlags.{BufferFlags}
@@ -24,6 +24,10 @@ removes_ignorables flags = bit_and flags.0 8 == 8
 -- deleted
 abbrev pub invisible_glyph : BufferFlags → Option ℕ → FaceParts → Option ℕ
 invisible_glyph flags set font = if removes_ignorables flags then None else option_or set (nominal_glyph 0x20 font)
+
+-- an item was made of a default ignorable, which a substitution may have made into a glyph
+abbrev pub is_ignorable_character : Item → Bool
+is_ignorable_character x = not (bit_and x.unicode_props 0x20 == 0)
 
 -- an item that has the given glyph if it is a default ignorable (HarfBuzz: hb_ot_hide_default_ignorables)
 abbrev pub hidden_item : ℕ → Item → Item

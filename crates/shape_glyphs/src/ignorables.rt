@@ -7,11 +7,12 @@ ghost use Rattle.buffer_glyphs.specs.Origins.{origin_of};
 ghost use Rattle.buffer_core.specs.Readings.{always};
 ghost use Rattle.buffer_stages.specs.Ready.{IsDone, IsReady};
 ghost use Rattle.buffer_stages.specs.Stages.{with_items_mapped};
-ghost use Rattle.shape_glyphs.specs.Ignorables.{ignorables_hidden, hidden_item, invisible_glyph, preserves_ignorables, without_ignorables};
+ghost use Rattle.shape_glyphs.specs.Ignorables.{ignorables_hidden, hidden_item, invisible_glyph, is_ignorable_character, preserves_ignorables, without_ignorables};
 
 use bitflags::Flags;
 use buffer_common::constants::BufferFlags;
 use buffer_core::buffer::hb_buffer_t;
+use buffer_glyphs::flags::UnicodeProps;
 use buffer_glyphs::info::hb_glyph_info_t;
 use buffer_glyphs::property_words::_hb_glyph_info_is_default_ignorable;
 use buffer_stages::glyphs::map_glyphs;
@@ -64,13 +65,40 @@ fn hide_by(invisible: u16, buffer: &mut hb_buffer_t)
     }
 }
 
+/// A list of this length or more is searched to its end, so that several glyphs are tested at once.
+const SEVERAL: usize = 16;
+
 /// Whether one of the glyphs is a default ignorable.
+#[tactic(auto, using(crate::proofs::Shown::none_ignorable))]
 pub(crate) fn has_ignorable(glyphs: &[hb_glyph_info_t]) -> bool
     ensures { result ≡ list_any (λ g. is_default_ignorable (item_of g)) glyphs.now }
 {
+    if !has_ignorable_character(glyphs) {
+        return false;
+    }
     glyphs
         .iter()
         .any(|glyph| _hb_glyph_info_is_default_ignorable(glyph))
+}
+
+/// Whether one of the glyphs was made of a default ignorable.
+fn has_ignorable_character(glyphs: &[hb_glyph_info_t]) -> bool
+    ensures { result ≡ list_any (λ g. is_ignorable_character (item_of g)) glyphs.now }
+{
+    if glyphs.len() < SEVERAL {
+        return glyphs.iter().any(|glyph| is_ignorable_character(glyph));
+    }
+    let mut any = false;
+    for glyph in glyphs {
+        any |= is_ignorable_character(glyph);
+    }
+    any
+}
+
+fn is_ignorable_character(glyph: &hb_glyph_info_t) -> bool
+    ensures { result ≡ is_ignorable_character (item_of glyph.now) }
+{
+    glyph.unicode_props.0 & UnicodeProps::IGNORABLE.0 != 0
 }
 
 fn hide_each(invisible: u16, buffer: &mut hb_buffer_t)
