@@ -1,7 +1,7 @@
 //! Plans for texts in turn.
 //!
 //! The clauses of `shape` (`shape_pipeline`) stand here again, since a cache answers what that call answers.
-ghost use Rattle.std.specs.Prelude.{◌≡◌, ◌≢◌, ◌≤◌, ◌<◌, ◌-◌, ◌+◌, ◌++◌, ◌⊎◌, Err, IfErr, IfOk, MatchOption, Ok, OnErr, OnOk, [], drop, false, length, slice_index_or};
+ghost use Rattle.std.specs.Prelude.{◌≡◌, ◌≢◌, ◌≤◌, ◌<◌, ◌-◌, ◌+◌, ◌++◌, ◌⊎◌, Err, IfErr, IfOk, IsErrAnd, MatchOption, Ok, OnErr, OnOk, [], drop, false, length, slice_index_or};
 ghost use Rattle.std.specs.List.{All, remove, slice_range};
 ghost use Rattle.shape_pipeline.specs.buffer_core.Readings.{Follows};
 ghost use Rattle.shape_pipeline.specs.buffer_core.Segment.{after_guess_segment_properties};
@@ -84,7 +84,7 @@ impl PlanCache {
         ensures unused { all_glyphs buffer ≡ [] → self.new ≡ self.old }
         ensures used { all_glyphs buffer ≢ []
             → IsAfter (L.tags_of shape_data.entry.languages.now) features.now buffer self.old self.new
-            ⊎ (self.new ≡ self.old) × IfErr result (λ e. e.cause ≡ ShapeCause.OutOfMemory) }
+            ⊎ (self.new ≡ self.old) × IsErrAnd result (λ e. e.cause ≡ ShapeCause.OutOfMemory) }
         ensures ok { IfOk result (λ glyphs. Follows
             (text_reading (by_text face.now shape_data.entry.tables.now (L.tags_of shape_data.entry.languages.now)
             (P.span_of shape_data.entry.spans.now) features.now
@@ -124,7 +124,7 @@ impl PlanCache {
         ensures unused { all_glyphs buffer.old ≡ [] → self.new ≡ self.old }
         ensures used { all_glyphs buffer.old ≢ []
             → IsAfter (L.tags_of shape_data.entry.languages.now) features.now buffer.old self.old self.new
-            ⊎ (self.new ≡ self.old) × IfErr result (λ e. e ≡ ShapeCause.OutOfMemory) }
+            ⊎ (self.new ≡ self.old) × IsErrAnd result (λ e. e ≡ ShapeCause.OutOfMemory) }
         ensures ok { OnOk result (Follows
             (text_reading (by_text face.now shape_data.entry.tables.now (L.tags_of shape_data.entry.languages.now)
             (P.span_of shape_data.entry.spans.now) features.now
