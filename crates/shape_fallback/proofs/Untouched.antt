@@ -25,6 +25,13 @@ any_stripped : (test : Item → Bool) (gs : List hb_glyph_info_t) → list_any t
 any_stripped test [] = refl
 any_stripped test (g ∷ gs) = ap (λ b. test (item_of g) || b) (any_stripped test gs)
 
+-- without classes no space has a type
+pub no_typed_space : (gs : List hb_glyph_info_t) → list_any (λ (g : hb_glyph_info_t). not (g.modified_combining_class == 0)) gs ≡ false → false ≡ list_any (λ (g : hb_glyph_info_t). is_typed_space (item_of g)) gs
+no_typed_space [] e = refl
+no_typed_space (g ∷ gs) e =
+    let both = or_parts (not (g.modified_combining_class == 0)) (list_any (λ (h : hb_glyph_info_t). not (h.modified_combining_class == 0)) gs) e in
+    sym (ap₂ (λ a b. (a && is_own_space (item_of g)) || b) both.0 (sym (no_typed_space gs both.1)))
+
 -- items that fail a test stay, under a map that leaves such items
 items_stay : (test : Item → Bool) (k : Item → Item) → ((x : Item) → test x ≡ false → k x ≡ x) → (xs : List Item) → list_any test xs ≡ false → map k xs ≡ xs
 items_stay test k leaves [] e = refl

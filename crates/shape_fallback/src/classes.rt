@@ -10,6 +10,7 @@ ghost use Rattle.buffer_stages.specs.Ready.{IsReady};
 ghost use Rattle.buffer_stages.specs.Stages.{IsFollowed};
 ghost use Rattle.shape_fallback.specs.Classes.{fallback_class, is_lao_above, is_thai_above, class_of_class, class_of_mark, class_of_unclassed, item_with_fallback_class, with_fallback_classes};
 
+use crate::SEVERAL;
 use buffer_common::constants::{
     CCC10, CCC11, CCC12, CCC13, CCC14, CCC15, CCC16, CCC17, CCC18, CCC19, CCC20, CCC22, CCC23,
     CCC24, CCC25, CCC26, CCC27, CCC28, CCC29, CCC30, CCC31, CCC32, CCC33, CCC34, CCC35, CCC36,
@@ -48,7 +49,14 @@ pub fn _hb_ot_shape_fallback_mark_position_recategorize_marks(buffer: &mut hb_bu
 fn has_nonspacing_mark(glyphs: &[hb_glyph_info_t]) -> bool
     ensures { result ≡ list_any (λ g. is_nonspacing_mark (item_of g)) glyphs.now }
 {
-    glyphs.iter().any(|glyph| is_nonspacing_mark(glyph))
+    if glyphs.len() < SEVERAL {
+        return glyphs.iter().any(|glyph| is_nonspacing_mark(glyph));
+    }
+    let mut any = false;
+    for glyph in glyphs {
+        any |= is_nonspacing_mark(glyph);
+    }
+    any
 }
 
 fn recategorize_each(buffer: &mut hb_buffer_t)

@@ -9,3 +9,6 @@ pub mod kerning;
 pub mod marks;
 pub mod spaces;
 pub mod zeroing;
+
+/// A list of this length or more is searched to its end, so that several glyphs are tested at once.
+const SEVERAL: usize = 16;

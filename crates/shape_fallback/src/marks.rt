@@ -14,6 +14,7 @@ ghost use Rattle.shape_fallback.specs.Marks.{HasBound, base_events, after_base, 
 ghost use Rattle.layout_common.specs.Rows.{value_of};
 ghost use Rattle.shape_fallback.specs.declared.marks.Before.TheVariants.{Nothing};
 
+use crate::SEVERAL;
 use crate::around::{Around, Placing, begun, extents_of, mark_around};
 use crate::bases::base_of;
 use buffer_common::direction::Direction;
@@ -83,7 +84,14 @@ pub fn position_marks(
 fn has_combining_mark(glyphs: &[hb_glyph_info_t]) -> bool
     ensures { result ≡ list_any (λ g. is_mark (item_of g)) glyphs.now }
 {
-    glyphs.iter().any(|glyph| is_mark(glyph))
+    if glyphs.len() < SEVERAL {
+        return glyphs.iter().any(|glyph| is_mark(glyph));
+    }
+    let mut any = false;
+    for glyph in glyphs {
+        any |= is_mark(glyph);
+    }
+    any
 }
 
 #[tactic(auto, using(crate::proofs::Placed::marks_done, crate::proofs::Placed::same_numbers))]

@@ -2,13 +2,14 @@
 //!
 //! A stage on positions is a call, its walk by `map_positions`, and the rule for one glyph; all such stages have this
 //! form.
-ghost use Rattle.std.specs.Prelude.{◌≡◌, ◌<◌, ◌+◌, ◌*◌, ◌/◌, ◌^◌, true};
+ghost use Rattle.std.specs.Prelude.{◌≡◌, ◌<◌, ◌+◌, ◌*◌, ◌/◌, ◌^◌, ◌==◌, not, true};
 ghost use Rattle.buffer_glyphs.specs.Items.{item_of};
 ghost use Rattle.buffer_core.specs.Readings.{always};
 ghost use Rattle.buffer_stages.specs.Ready.{IsDone, IsReady};
 ghost use Rattle.std.specs.List.{list_any};
 ghost use Rattle.shape_fallback.specs.Spaces.{digits, first_glyph, half, is_own_space, is_part_of_em, is_typed_space, of_found, of_glyph, of_length, position_with_advance, space_of_type, space_position, stops, with_spaces};
 
+use crate::SEVERAL;
 use buffer_common::direction::Direction;
 use buffer_core::buffer::hb_buffer_t;
 use buffer_glyphs::flags::GlyphPropsFlags;
@@ -36,10 +37,30 @@ pub fn _hb_ot_shape_fallback_spaces(face: &Face, buffer: &mut hb_buffer_t)
 }
 
 /// Whether one of the characters is a space with a type.
+#[tactic(auto, using(crate::proofs::Untouched::no_typed_space))]
 fn has_typed_space(glyphs: &[hb_glyph_info_t]) -> bool
     ensures { result ≡ list_any (λ g. is_typed_space (item_of g)) glyphs.now }
 {
+    if !has_class(glyphs) {
+        return false;
+    }
     glyphs.iter().any(|glyph| is_typed_space(glyph))
+}
+
+/// Whether one of the characters has a class, as marks and spaces with a type have.
+fn has_class(glyphs: &[hb_glyph_info_t]) -> bool
+    ensures { result ≡ list_any (λ g. not (g.modified_combining_class == 0)) glyphs.now }
+{
+    if glyphs.len() < SEVERAL {
+        return glyphs
+            .iter()
+            .any(|glyph| glyph.modified_combining_class != NOT_SPACE);
+    }
+    let mut any = false;
+    for glyph in glyphs {
+        any |= glyph.modified_combining_class != NOT_SPACE;
+    }
+    any
 }
 
 fn is_typed_space(glyph: &hb_glyph_info_t) -> bool

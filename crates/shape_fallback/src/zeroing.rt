@@ -7,6 +7,7 @@ ghost use Rattle.buffer_core.specs.Readings.{always};
 ghost use Rattle.buffer_stages.specs.Ready.{IsDone, IsReady};
 ghost use Rattle.shape_fallback.specs.Zeroing.{mark_zeroed, with_marks_zeroed};
 
+use crate::SEVERAL;
 use buffer_core::buffer::hb_buffer_t;
 use buffer_glyphs::info::hb_glyph_info_t;
 use buffer_glyphs::ligature_words::_hb_glyph_info_is_mark;
@@ -31,7 +32,14 @@ pub fn zero_mark_widths_by_gdef(buffer: &mut hb_buffer_t, adjust_offsets: bool)
 fn has_mark_glyph(glyphs: &[hb_glyph_info_t]) -> bool
     ensures { result ≡ list_any (λ g. is_mark (item_of g)) glyphs.now }
 {
-    glyphs.iter().any(|glyph| _hb_glyph_info_is_mark(glyph))
+    if glyphs.len() < SEVERAL {
+        return glyphs.iter().any(|glyph| _hb_glyph_info_is_mark(glyph));
+    }
+    let mut any = false;
+    for glyph in glyphs {
+        any |= _hb_glyph_info_is_mark(glyph);
+    }
+    any
 }
 
 fn zero_each_width(buffer: &mut hb_buffer_t, adjust_offsets: bool)
