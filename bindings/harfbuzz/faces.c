@@ -4,6 +4,7 @@
 #include <stdlib.h>
 
 #include "instead.h"
+#include "sfnt.h"
 
 /* What kuspveli.h says of the stack. */
 #define STACK_OF_READING (384 << 10)
@@ -178,10 +179,9 @@ static unsigned int
 metrics_of (hb_face_t *face)
 {
   hb_blob_t *table = hb_face_reference_table (face, HB_TAG ('h', 'h', 'e', 'a'));
-  unsigned int length, count = 0;
+  unsigned int length;
   const uint8_t *bytes = (const uint8_t *) hb_blob_get_data (table, &length);
-  if (length >= HHEA_METRICS + 2)
-    count = (unsigned int) bytes[HHEA_METRICS] << 8 | bytes[HHEA_METRICS + 1];
+  unsigned int count = word ((sfnt_t){ bytes, length }, HHEA_METRICS);
   hb_blob_destroy (table);
   return count;
 }
@@ -307,7 +307,7 @@ table_advance (const face_font_t *owner, hb_codepoint_t glyph)
     return 0;
   unsigned int last = owner->num_metrics - 1;
   const uint8_t *metric = owner->metrics + HMTX_METRIC * (glyph < last ? glyph : last);
-  return metric[0] << 8 | metric[1];
+  return (int) word ((sfnt_t){ metric, HMTX_METRIC }, 0);
 }
 
 bool

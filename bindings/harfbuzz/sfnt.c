@@ -2,6 +2,7 @@
 #include <stdlib.h>
 
 #include "instead.h"
+#include "sfnt.h"
 
 /* The tables that Kuspveli reads, and those by which it refuses a font. */
 static const char tags[] = "head" "maxp" "hhea" "hmtx" "vhea" "vmtx" "OS/2" "VORG" "cmap" "post" "GDEF" "GSUB" "GPOS"
@@ -78,13 +79,6 @@ is_changed (hb_tag_t tag)
   return false;
 }
 
-static void
-put_u16 (char *to, unsigned int value)
-{
-  to[0] = (char) (value >> 8);
-  to[1] = (char) value;
-}
-
 /* A copy of a table of at least so many bytes with another word in it; an empty one where it is shorter. */
 static hb_blob_t *
 table_with (hb_face_t *face, hb_tag_t tag, unsigned int least, unsigned int at, unsigned int value)
@@ -94,7 +88,7 @@ table_with (hb_face_t *face, hb_tag_t tag, unsigned int least, unsigned int at, 
   unsigned int length = 0;
   char *bytes = copy ? hb_blob_get_data_writable (copy, &length) : NULL;
   if (bytes && length >= least) {
-    put_u16 (bytes + at, value);
+    put_word ((uint8_t *) bytes + at, value);
     return copy;
   }
   hb_blob_destroy (copy);
@@ -105,16 +99,16 @@ table_with (hb_face_t *face, hb_tag_t tag, unsigned int least, unsigned int at, 
 static hb_blob_t *
 sized_hmtx (const face_font_t *owner, const units_t *units, unsigned int glyphs)
 {
-  char *bytes = calloc (glyphs + 1, HMTX_METRIC);
+  uint8_t *bytes = calloc (glyphs + 1, HMTX_METRIC);
   bool fits = bytes;
   for (unsigned int glyph = 0; fits && glyph < glyphs; glyph++) {
     int64_t advance = scaled (table_advance (owner, glyph), multiplier (units->x_scale, units->upem));
     advance = fraction_of (units->fraction, finer (units, advance));
     fits = 0 <= advance && advance <= UINT16_MAX;
-    put_u16 (bytes + HMTX_METRIC * glyph, (unsigned int) advance);
+    put_word (bytes + HMTX_METRIC * glyph, advance);
   }
   if (fits)
-    return hb_blob_create (bytes, glyphs * HMTX_METRIC, HB_MEMORY_MODE_WRITABLE, bytes, free);
+    return hb_blob_create ((char *) bytes, glyphs * HMTX_METRIC, HB_MEMORY_MODE_WRITABLE, bytes, free);
   free (bytes);
   return NULL;
 }
@@ -162,17 +156,12 @@ sized_file_of (hb_face_t *face, const face_font_t *owner, const units_t *units)
 #define RECORDS 12 /* where the records of tables begin, and what each takes */
 #define RECORD 16
 
-static size_t
-long_word (const uint8_t *at)
-{
-  return (size_t) at[0] << 24 | (size_t) at[1] << 16 | (size_t) at[2] << 8 | at[3];
-}
-
 size_t
 metrics_in (const uint8_t *bytes, size_t length)
 {
+  sfnt_t file = { bytes, length };
   for (size_t at = RECORDS; at + RECORD <= length && at < RECORDS + RECORD * 256; at += RECORD)
-    if (long_word (bytes + at) == HB_TAG ('h', 'm', 't', 'x'))
-      return long_word (bytes + at + 8) <= length ? long_word (bytes + at + 8) : 0;
+    if (long_word (file, at) == HB_TAG ('h', 'm', 't', 'x'))
+      return long_word (file, at + 8) <= length ? long_word (file, at + 8) : 0;
   return 0;
 }

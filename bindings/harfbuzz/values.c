@@ -4,11 +4,12 @@
 #include <stdlib.h>
 
 #include "instead.h"
+#include "sfnt.h"
 
 /* A table whose values are changed. */
 typedef struct {
-  uint8_t *bytes;
-  size_t length;
+  sfnt_t own;
+  uint8_t *bytes;     /* those of `own` */
   uint8_t *is_scaled; /* of each byte: a value that begins there is in the client's units */
   const units_t *units;
   variations_t *variations;
@@ -69,33 +70,13 @@ joined (int64_t low, int64_t high)
   return high * (1 << LOW_BITS) + low;
 }
 
-/* ---- words of the table */
-
-static unsigned int
-word (const table_t *table, size_t at)
-{
-  if (at + 2 > table->length)
-    return 0;
-  return (unsigned int) table->bytes[at] << 8 | table->bytes[at + 1];
-}
-
-static size_t
-long_word (const table_t *table, size_t at)
-{
-  return (size_t) word (table, at) << 16 | word (table, at + 2);
-}
-
-static int
-signed_word (const table_t *table, size_t at)
-{
-  return (int16_t) word (table, at);
-}
+/* ---- values of the table */
 
 /* Whether a value is still to be scaled. */
 static bool
 begin_value (table_t *table, size_t at)
 {
-  if (at + 2 > table->length || table->is_scaled[at])
+  if (at + 2 > table->own.length || table->is_scaled[at])
     return false;
   table->is_scaled[at] = 1;
   return true;
@@ -120,8 +101,7 @@ put_value (table_t *table, size_t at, int64_t whole)
   if (table->units->fraction == LOW && whole && !value)
     value = 1;
   table->fits &= INT16_MIN <= value && value <= INT16_MAX;
-  table->bytes[at] = (uint8_t) ((uint64_t) value >> 8);
-  table->bytes[at + 1] = (uint8_t) value;
+  put_word (table->bytes + at, value);
 }
 
 static bool
@@ -141,11 +121,12 @@ take_step (table_t *table)
 static int
 device_pixels (const table_t *table, size_t device, unsigned int ppem)
 {
-  unsigned int first = word (table, device), last = word (table, device + 2), format = word (table, device + 4);
+  unsigned int first = word (table->own, device), last = word (table->own, device + 2);
+  unsigned int format = word (table->own, device + 4);
   if (!ppem || format < 1 || format > 3 || ppem < first || ppem > last)
     return 0;
   unsigned int bits = 1u << format, in_word = 16 / bits, index = ppem - first;
-  unsigned int packed = word (table, device + 6 + 2 * (size_t) (index / in_word));
+  unsigned int packed = word (table->own, device + 6 + 2 * (size_t) (index / in_word));
   int pixels = (int) (packed >> (16 - bits * (index % in_word + 1)) & ((1u << bits) - 1));
   return pixels >= 1 << (bits - 1) ? pixels - (1 << bits) : pixels;
 }
@@ -158,8 +139,8 @@ device_delta (const table_t *table, size_t device, bool is_vertical)
   unsigned int ppem = is_vertical ? units->y_ppem : units->x_ppem;
   if (!device)
     return 0;
-  if (word (table, device + 4) == OF_VARIATIONS && table->variations) {
-    float delta = variation_of (table->variations, word (table, device), word (table, device + 2));
+  if (word (table->own, device + 4) == OF_VARIATIONS && table->variations) {
+    float delta = variation_of (table->variations, word (table->own, device), word (table->own, device + 2));
     return (int64_t) roundf (delta * (float) scale / (float) units->upem);
   }
   int pixels = device_pixels (table, device, ppem);
@@ -175,9 +156,9 @@ scale_value (table_t *table, size_t at, size_t device, bool is_vertical)
   if (!begin_value (table, at))
     return;
   int64_t by = multiplier (is_vertical ? units->y_scale : units->x_scale, units->upem);
-  int64_t value = scaled (signed_word (table, at), by) + device_delta (table, device, is_vertical);
+  int64_t value = scaled (signed_word (table->own, at), by) + device_delta (table, device, is_vertical);
   /* One that is rounded to nothing stays one for the flags of its glyphs. */
-  bool is_lost = !value && units->shift > 0 && word (table, at);
+  bool is_lost = !value && units->shift > 0 && word (table->own, at);
   put_value (table, at, is_lost ? 1 : finer (units, value));
 }
 
@@ -200,7 +181,7 @@ scale_record (table_t *table, size_t at, unsigned int format, size_t parent)
   for (int value = 0; value < NUM_VALUES; value++) {
     size_t device = 0;
     if (format & 1u << (value + NUM_VALUES)) {
-      device = word (table, devices) ? parent + word (table, devices) : 0;
+      device = word (table->own, devices) ? parent + word (table->own, devices) : 0;
       devices += 2;
     }
     if (!(format & 1u << value))
@@ -219,7 +200,7 @@ scale_coordinate (table_t *table, size_t at, size_t device, bool is_vertical, an
   const units_t *units = table->units;
   if (!begin_value (table, at))
     return;
-  int64_t value = (int64_t) signed_word (table, at) * (is_vertical ? units->y_scale : units->x_scale);
+  int64_t value = (int64_t) signed_word (table->own, at) * (is_vertical ? units->y_scale : units->x_scale);
   int64_t delta = finer (units, device_delta (table, device, is_vertical));
   if (kind == OF_CURSIVE && !is_vertical)
     value = finer (units, rounded (value, units->upem));
@@ -236,8 +217,9 @@ scale_anchor (table_t *table, size_t parent, unsigned int offset, anchor_t kind)
   if (!offset)
     return;
   size_t at = parent + offset;
-  bool has_devices = word (table, at) == 3;
-  unsigned int x_device = has_devices ? word (table, at + 6) : 0, y_device = has_devices ? word (table, at + 8) : 0;
+  bool has_devices = word (table->own, at) == 3;
+  unsigned int x_device = has_devices ? word (table->own, at + 6) : 0;
+  unsigned int y_device = has_devices ? word (table->own, at + 8) : 0;
   scale_coordinate (table, at + 2, x_device ? at + x_device : 0, false, kind);
   scale_coordinate (table, at + 4, y_device ? at + y_device : 0, true, kind);
 }
@@ -249,8 +231,8 @@ enum { SINGLE = 1, PAIR, CURSIVE, MARK_TO_BASE, MARK_TO_LIGATURE, MARK_TO_MARK, 
 static void
 scale_single (table_t *table, size_t at)
 {
-  unsigned int format = word (table, at + 4), count = word (table, at) == 1 ? 1 : word (table, at + 6);
-  size_t first = word (table, at) == 1 ? at + 6 : at + 8, size = size_of_record (format);
+  unsigned int format = word (table->own, at + 4), count = word (table->own, at) == 1 ? 1 : word (table->own, at + 6);
+  size_t first = word (table->own, at) == 1 ? at + 6 : at + 8, size = size_of_record (format);
   for (unsigned int i = 0; i < count && take_step (table); i++)
     scale_record (table, first + i * size, format, at);
 }
@@ -259,7 +241,7 @@ static void
 scale_pair_set (table_t *table, size_t at, unsigned int first, unsigned int second)
 {
   size_t size = 2 + size_of_record (first) + size_of_record (second);
-  unsigned int count = word (table, at);
+  unsigned int count = word (table->own, at);
   for (unsigned int i = 0; i < count && take_step (table); i++) {
     size_t record = at + 2 + i * size + 2;
     scale_record (table, record, first, at);
@@ -270,16 +252,16 @@ scale_pair_set (table_t *table, size_t at, unsigned int first, unsigned int seco
 static void
 scale_pairs (table_t *table, size_t at)
 {
-  unsigned int first = word (table, at + 4), second = word (table, at + 6);
+  unsigned int first = word (table->own, at + 4), second = word (table->own, at + 6);
   size_t size = size_of_record (first) + size_of_record (second);
-  if (word (table, at) == 1) {
-    unsigned int count = word (table, at + 8);
+  if (word (table->own, at) == 1) {
+    unsigned int count = word (table->own, at + 8);
     for (unsigned int i = 0; i < count && take_step (table); i++)
-      if (word (table, at + 10 + 2 * (size_t) i))
-        scale_pair_set (table, at + word (table, at + 10 + 2 * (size_t) i), first, second);
+      if (word (table->own, at + 10 + 2 * (size_t) i))
+        scale_pair_set (table, at + word (table->own, at + 10 + 2 * (size_t) i), first, second);
     return;
   }
-  size_t count = size ? (size_t) word (table, at + 12) * word (table, at + 14) : 0;
+  size_t count = size ? (size_t) word (table->own, at + 12) * word (table->own, at + 14) : 0;
   for (size_t i = 0; i < count && take_step (table); i++) {
     scale_record (table, at + 16 + i * size, first, at);
     scale_record (table, at + 16 + i * size + size_of_record (first), second, at);
@@ -289,43 +271,43 @@ scale_pairs (table_t *table, size_t at)
 static void
 scale_cursive (table_t *table, size_t at)
 {
-  size_t count = 2 * (size_t) word (table, at + 4);
+  size_t count = 2 * (size_t) word (table->own, at + 4);
   for (size_t i = 0; i < count && take_step (table); i++)
-    scale_anchor (table, at, word (table, at + 6 + 2 * i), OF_CURSIVE);
+    scale_anchor (table, at, word (table->own, at + 6 + 2 * i), OF_CURSIVE);
 }
 
 /* A matrix of anchors: one for each class of each base or component. */
 static void
 scale_matrix (table_t *table, size_t at, unsigned int classes)
 {
-  size_t count = (size_t) word (table, at) * classes;
+  size_t count = (size_t) word (table->own, at) * classes;
   for (size_t i = 0; i < count && take_step (table); i++)
-    scale_anchor (table, at, word (table, at + 2 + 2 * i), OF_MARKS);
+    scale_anchor (table, at, word (table->own, at + 2 + 2 * i), OF_MARKS);
 }
 
 static void
 scale_marks (table_t *table, size_t at, unsigned int type)
 {
-  unsigned int classes = word (table, at + 6);
-  size_t marks = at + word (table, at + 8), bases = at + word (table, at + 10);
-  unsigned int count = word (table, marks);
+  unsigned int classes = word (table->own, at + 6);
+  size_t marks = at + word (table->own, at + 8), bases = at + word (table->own, at + 10);
+  unsigned int count = word (table->own, marks);
   for (unsigned int i = 0; i < count && take_step (table); i++)
-    scale_anchor (table, marks, word (table, marks + 4 + 4 * (size_t) i), OF_MARKS);
+    scale_anchor (table, marks, word (table->own, marks + 4 + 4 * (size_t) i), OF_MARKS);
   if (type != MARK_TO_LIGATURE) {
     scale_matrix (table, bases, classes);
     return;
   }
-  count = word (table, bases);
+  count = word (table->own, bases);
   for (unsigned int i = 0; i < count && take_step (table); i++)
-    scale_matrix (table, bases + word (table, bases + 2 + 2 * (size_t) i), classes);
+    scale_matrix (table, bases + word (table->own, bases + 2 + 2 * (size_t) i), classes);
 }
 
 static void
 scale_subtable (table_t *table, size_t at, unsigned int type)
 {
   if (type == EXTENSION) {
-    type = word (table, at + 2);
-    at += long_word (table, at + 4);
+    type = word (table->own, at + 2);
+    at += long_word (table->own, at + 4);
   }
   if (type == SINGLE)
     scale_single (table, at);
@@ -340,13 +322,13 @@ scale_subtable (table_t *table, size_t at, unsigned int type)
 static void
 scale_gpos (table_t *table)
 {
-  size_t list = word (table, 8);
-  unsigned int lookups = list ? word (table, list) : 0;
+  size_t list = word (table->own, 8);
+  unsigned int lookups = list ? word (table->own, list) : 0;
   for (unsigned int i = 0; i < lookups && take_step (table); i++) {
-    size_t lookup = list + word (table, list + 2 + 2 * (size_t) i);
-    unsigned int type = word (table, lookup), count = word (table, lookup + 4);
+    size_t lookup = list + word (table->own, list + 2 + 2 * (size_t) i);
+    unsigned int type = word (table->own, lookup), count = word (table->own, lookup + 4);
     for (unsigned int j = 0; j < count && take_step (table); j++)
-      scale_subtable (table, lookup + word (table, lookup + 6 + 2 * (size_t) j), type);
+      scale_subtable (table, lookup + word (table->own, lookup + 6 + 2 * (size_t) j), type);
   }
 }
 
@@ -355,16 +337,16 @@ scale_gpos (table_t *table)
 static void
 scale_kern (table_t *table)
 {
-  bool is_apple = word (table, 0) == 1;
+  bool is_apple = word (table->own, 0) == 1;
   size_t at = is_apple ? 8 : 4, head = is_apple ? 8 : 6;
-  size_t count = is_apple ? long_word (table, 4) : word (table, 2);
+  size_t count = is_apple ? long_word (table->own, 4) : word (table->own, 2);
   for (size_t i = 0; i < count && take_step (table); i++) {
-    unsigned int coverage = word (table, at + 4), pairs = word (table, at + head);
+    unsigned int coverage = word (table->own, at + 4), pairs = word (table->own, at + head);
     if ((is_apple ? coverage & 0xFF : coverage >> 8) != 0)
       table->fits = false;
     for (unsigned int j = 0; j < pairs && take_step (table); j++)
       scale_value (table, at + head + 8 + 6 * (size_t) j + 4, 0, false);
-    at += is_apple ? long_word (table, at) : word (table, at + 2);
+    at += is_apple ? long_word (table->own, at) : word (table->own, at + 2);
   }
 }
 
@@ -383,7 +365,7 @@ scaled_table (hb_face_t *face, hb_tag_t tag, const units_t *units)
   unsigned int length;
   table_t table = { .units = units, .is_halved = tag != HB_OT_TAG_GPOS, .fits = true };
   table.bytes = (uint8_t *) hb_blob_get_data_writable (copy, &length);
-  table.length = length;
+  table.own = (sfnt_t){ table.bytes, length };
   table.rest = STEPS_OF_BYTE * (size_t) length;
   table.is_scaled = calloc (1, (size_t) length + 1);
   if (units->num_coordinates)

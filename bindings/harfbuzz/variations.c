@@ -4,6 +4,7 @@
 #include <stdlib.h>
 
 #include "instead.h"
+#include "sfnt.h"
 
 #define STORE_IN_GDEF 14 /* from version 1.3 on */
 #define LONG_WORDS 0x8000
@@ -11,29 +12,11 @@
 
 struct variations {
   hb_blob_t *gdef;
-  const uint8_t *bytes;
-  size_t length, store;
+  sfnt_t own; /* the bytes of GDEF */
+  size_t store;
   float *scalars; /* of each region, at the instance */
   unsigned int num_regions;
 };
-
-static unsigned int
-word (const variations_t *from, size_t at)
-{
-  return at + 2 <= from->length ? (unsigned int) from->bytes[at] << 8 | from->bytes[at + 1] : 0;
-}
-
-static size_t
-long_word (const variations_t *from, size_t at)
-{
-  return (size_t) word (from, at) << 16 | word (from, at + 2);
-}
-
-static int
-signed_word (const variations_t *from, size_t at)
-{
-  return (int16_t) word (from, at);
-}
 
 /* How much of a region's delta an axis has at a coordinate. */
 static float
@@ -54,7 +37,8 @@ scalar_of_region (const variations_t *from, size_t region, unsigned int axes, co
   for (unsigned int axis = 0; axis < axes && scalar != 0; axis++) {
     size_t at = region + 6 * (size_t) axis;
     int coordinate = axis < units->num_coordinates ? units->coordinates[axis] : 0;
-    int first = signed_word (from, at), peak = signed_word (from, at + 2), last = signed_word (from, at + 4);
+    int first = signed_word (from->own, at), peak = signed_word (from->own, at + 2);
+    int last = signed_word (from->own, at + 4);
     scalar *= scalar_of_axis (first, peak, last, coordinate);
   }
   return scalar;
@@ -68,15 +52,15 @@ new_variations (hb_face_t *face, const units_t *units)
   if (!made)
     return NULL;
   made->gdef = hb_face_reference_table (face, HB_OT_TAG_GDEF);
-  made->bytes = (const uint8_t *) hb_blob_get_data (made->gdef, &length);
-  made->length = length;
-  if (word (made, 0) == 1 && word (made, 2) >= 3)
-    made->store = long_word (made, STORE_IN_GDEF);
+  const uint8_t *bytes = (const uint8_t *) hb_blob_get_data (made->gdef, &length);
+  made->own = (sfnt_t){ bytes, length };
+  if (word (made->own, 0) == 1 && word (made->own, 2) >= 3)
+    made->store = long_word (made->own, STORE_IN_GDEF);
   if (!made->store)
     return made;
-  size_t regions = made->store + long_word (made, made->store + 2);
-  unsigned int axes = word (made, regions);
-  made->num_regions = word (made, regions + 2);
+  size_t regions = made->store + long_word (made->own, made->store + 2);
+  unsigned int axes = word (made->own, regions);
+  made->num_regions = word (made->own, regions + 2);
   made->scalars = calloc ((size_t) made->num_regions + 1, sizeof *made->scalars);
   for (unsigned int i = 0; made->scalars && i < made->num_regions; i++)
     made->scalars[i] = scalar_of_region (made, regions + 4 + 6 * (size_t) axes * i, axes, units);
@@ -97,25 +81,25 @@ static int32_t
 delta_at (const variations_t *from, size_t at, unsigned int size)
 {
   if (size == 4)
-    return (int32_t) long_word (from, at);
-  return size == 2 ? signed_word (from, at) : (int8_t) (word (from, at) >> 8);
+    return (int32_t) long_word (from->own, at);
+  return size == 2 ? signed_word (from->own, at) : (int8_t) (word (from->own, at) >> 8);
 }
 
 float
 variation_of (const variations_t *from, unsigned int outer, unsigned int inner)
 {
-  if (!from->scalars || (outer == NONE && inner == NONE) || outer >= word (from, from->store + 6))
+  if (!from->scalars || (outer == NONE && inner == NONE) || outer >= word (from->own, from->store + 6))
     return 0;
-  size_t data = from->store + long_word (from, from->store + 8 + 4 * (size_t) outer);
-  unsigned int packed = word (from, data + 2), regions = word (from, data + 4), large = packed & ~LONG_WORDS;
-  unsigned int size = packed & LONG_WORDS ? 4 : 2;
-  if (inner >= word (from, data) || large > regions)
+  size_t data = from->store + long_word (from->own, from->store + 8 + 4 * (size_t) outer);
+  unsigned int packed = word (from->own, data + 2), regions = word (from->own, data + 4);
+  unsigned int large = packed & ~LONG_WORDS, size = packed & LONG_WORDS ? 4 : 2;
+  if (inner >= word (from->own, data) || large > regions)
     return 0;
   size_t row = (size_t) size * large + (size_t) (size / 2) * (regions - large);
   size_t at = data + 6 + 2 * (size_t) regions + row * inner;
   float sum = 0;
   for (unsigned int i = 0; i < regions; i++) {
-    unsigned int region = word (from, data + 6 + 2 * (size_t) i), own = i < large ? size : size / 2;
+    unsigned int region = word (from->own, data + 6 + 2 * (size_t) i), own = i < large ? size : size / 2;
     if (region < from->num_regions)
       sum += from->scalars[region] * (float) delta_at (from, at, own);
     at += own;
