@@ -1,6 +1,6 @@
 """What a font that fontTools reads may be at most, and what reading a font may take.
 
-Debian's fonts are far below; docs/TOOLS.md says how far.
+Debian's fonts are far below; docs/TOOLS.md has the largest.
 """
 
 import contextlib
