@@ -19,7 +19,7 @@ from beside.programs import THEIRS, Files, build_driver, printed_by
 from beside.opening import opening_lines
 from beside.sets import OPENED, PACKAGES, SETS, Set
 from beside.steps import Steps
-from beside.table import Row, of_glyphs, summary, tables
+from beside.table import Row, of_glyphs, ratios, summary, tables
 from beside.works import LARGE, PAGE, Measure, measure_of, take_counts, take_peaks, take_times
 from building.places import LIBRARY, PROGRAM, standing
 from building.ready import usable
@@ -107,7 +107,7 @@ def read_options(words: list[str]) -> argparse.Namespace:
     shown = "measure nothing, and show the numbers of such a file"
     parser.add_argument("--from", type=Path, dest="kept", metavar="FILE", help=shown)
     parser.add_argument("--chart", type=Path, metavar="FILE", help="draw the numbers into a file (SVG)")
-    written = "write the tables into a document, between its two lines for them"
+    written = "write the ratios, or the table of --opening, into a document, between its two lines for them"
     parser.add_argument("--table", type=Path, metavar="FILE", help=written)
     options = parser.parse_args(words)
     options.pages = options.pages or (COUNTED_PAGES if options.instructions else PAGES)
@@ -237,13 +237,12 @@ def keep(kept: Kept, options: argparse.Namespace) -> None:
 
 
 def show(kept: Kept, options: argparse.Namespace) -> None:
-    """Prints what was measured with its tables; writes and draws them where that is asked."""
+    """Prints what was measured with its tables; writes and draws the ratios where that is asked."""
     if options.chart is not None:
         write_file(options.chart, chart(kept))
-    lines = [*kept.told(), "", *tables(kept.rows)]
     if options.table is not None:
-        replace_part(options.table, BEGIN, END, lines)
-    print("\n".join(lines))
+        replace_part(options.table, BEGIN, END, [*kept.told(), "", *ratios(kept.rows)])
+    print("\n".join([*kept.told(), "", *tables(kept.rows)]))
 
 
 def take_all(

@@ -69,14 +69,15 @@ def shown(ratio: float | None) -> str:
 # ---- tables
 
 
+def ratios(rows: list[Row]) -> list[str]:
+    """The table of the ratios that were measured."""
+    there = [what for what in MARKS if any(what in row.pairs for row in rows)]
+    return table_lines([["Set", *there], *([row.title, *map(row.shown, there)] for row in rows)])
+
+
 def tables(rows: list[Row]) -> list[str]:
     """The ratios; what reading a font and a first word take; the peaks of memory where they were taken."""
-    there = [what for what in MARKS if any(what in row.pairs for row in rows)]
-    lines = [
-        *table_lines([["Set", *there], *([row.title, *map(row.shown, there)] for row in rows)]),
-        "",
-        *table_lines([once_head(), *([row.title, *once_cells(row)] for row in rows)]),
-    ]
+    lines = [*ratios(rows), "", *table_lines([once_head(), *([row.title, *once_cells(row)] for row in rows)])]
     peaks = [[row.title, *peak_cells(row)] for row in rows if "memory" in row.pairs]
     return [*lines, "", *table_lines([["Set", "memory", "HarfBuzz", "ratio"], *peaks])] if peaks else lines
 

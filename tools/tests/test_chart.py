@@ -14,7 +14,7 @@ from beside import cli, kept
 from beside.chart import NAMES, chart
 from beside.kept import KEYS, Kept, read_kept, run_of, set_of, told_run, write_kept
 from beside.sets import SETS
-from beside.table import Pair, Row, tables
+from beside.table import Pair, Row, ratios
 from common.faults import ToolFault
 
 DOCS = TOOLS.parent / "docs"
@@ -74,16 +74,17 @@ class Numbers(unittest.TestCase):
         self.assertIn("Instructions over those of HarfBuzz 6.0.0", "".join(drawn.itertext()))
 
     def test_table(self) -> None:
-        """The tables stand in a document between its two lines, and stay the same when they are written again."""
+        """The ratios stand in a document between its two lines, and stay the same when they are written again."""
         kept, document = self.folder / "kept.json", self.folder / "SPEED.md"
-        write_kept(kept, Kept(RUN, [Row("Thai", "Loma", {"page": Pair(400, 300)})]))
+        run = Kept(RUN, [Row("Thai", "Loma", {"page": Pair(400, 300)})])
+        write_kept(kept, run)
         document.write_text(f"# Speed\n\n{cli.BEGIN}\n| old |\n{cli.END}\n\nMore.\n", encoding="utf-8")
         for _ in range(2):
             with contextlib.redirect_stdout(io.StringIO()) as shown:
                 self.assertEqual(cli.main([f"--from={kept}", f"--table={document}"]), 0)
-            made = f"{cli.BEGIN}\n\n{shown.getvalue()}\n{cli.END}"
-            self.assertEqual(document.read_text(), f"# Speed\n\n{made}\n\nMore.\n")
-        self.assertIn("| Thai, Loma | 0.75 |", document.read_text())
+            made = "\n".join([*run.told(), "", "| Set | page |", "| --- | --- |", "| Thai, Loma | 0.75 |", ""])
+            self.assertEqual(document.read_text(), f"# Speed\n\n{cli.BEGIN}\n\n{made}\n{cli.END}\n\nMore.\n")
+            self.assertTrue(shown.getvalue().startswith(made))
 
     def test_words(self) -> None:
         """A file of another form is a fault that names it."""
@@ -95,11 +96,11 @@ class Numbers(unittest.TestCase):
 
 class Documents(unittest.TestCase):
     def test_table(self) -> None:
-        """SPEED.md has the tables of the kept numbers, of all sets, and says of which run they are; none is wide."""
+        """SPEED.md has the ratios of the kept numbers, of all sets, and says of which run they are; none is wide."""
         kept, text = read_kept(NUMBERS), (DOCS / "SPEED.md").read_text(encoding="utf-8")
         self.assertEqual([row.title for row in kept.rows], [chosen.title for chosen in SETS])
-        self.assertIn("\n".join([cli.BEGIN, "", *kept.told(), "", *tables(kept.rows), "", cli.END]), text)
-        self.assertLessEqual(max(map(len, tables(kept.rows))), 80)
+        self.assertIn("\n".join([cli.BEGIN, "", *kept.told(), "", *ratios(kept.rows), "", cli.END]), text)
+        self.assertLessEqual(max(map(len, ratios(kept.rows))), 80)
 
     def test_drawn(self) -> None:
         with tempfile.TemporaryDirectory() as folder, contextlib.redirect_stdout(io.StringIO()):
