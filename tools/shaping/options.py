@@ -81,16 +81,34 @@ def level(text: str) -> str:
 
 # A sign, a tag, a range of clusters, a value.
 FEATURE = re.compile(
-    r"""\s*[+-]?\s*(?:\w{1,4}|"\w{1,4}"|'\w{1,4}')\s*(?:\[[\d:;+-]*\])?\s*(?:=?\s*(?:\d+|on|off))?\s*""",
+    r"""\s*[+-]?\s*(?:\w{1,4}|"\w{1,4}"|'\w{1,4}')\s*(?:\[(?P<range>[\d:;+-]*)\])?\s*"""
+    r"""(?:=?\s*(?:(?P<value>\d+)|on|off))?\s*""",
     re.ASCII | re.IGNORECASE,
 )
+BOUND = re.compile(r"[+-]?\d+", re.ASCII)
+# A feature's value is a number of 32 bits, a bound of its range one with a sign.
+MOST_VALUE, LEAST_BOUND, MOST_BOUND = 0xFFFF_FFFF, -0x8000_0000, 0x7FFF_FFFF
+# HarfBuzz reads numbers of 64 bits with a sign, and takes their lowest 32 bits.
+MOST_OF_HARFBUZZ = 0x7FFF_FFFF_FFFF_FFFF
 
 
 def features(text: str) -> str:
     for part in text.split(","):
-        if not FEATURE.fullmatch(part):
+        found = FEATURE.fullmatch(part)
+        if not found:
             raise ValueError(f"no feature: {part!r}; features are as -liga, kern=2 or ss01[3:5], with commas")
+        for bound in map(int, BOUND.findall(found["range"] or "")):
+            if not LEAST_BOUND <= bound <= MOST_BOUND:
+                raise ValueError(f"{part!r}: a bound is from {LEAST_BOUND} to {MOST_BOUND}{taken_by_harfbuzz(bound)}")
+        value = int(found["value"] or 0)
+        if value > MOST_VALUE:
+            raise ValueError(f"{part!r}: a value is at most {MOST_VALUE}{taken_by_harfbuzz(value)}")
     return text
+
+
+def taken_by_harfbuzz(number: int) -> str:
+    """What HarfBuzz makes of a number that is refused here, where it takes one."""
+    return f" (HarfBuzz takes {number & MOST_VALUE} here)" if abs(number) <= MOST_OF_HARFBUZZ else ""
 
 
 def variations(text: str) -> str:

@@ -40,11 +40,17 @@ REFUSED = {
     "--features -liga a": "--features: its value is missing: --features=F",
     "--features=kern=x a": "--features: no feature: 'kern=x'; features are as -liga, kern=2 or ss01[3:5], with commas: 'kern=x'",
     "--features=liga,k;rn a": "--features: no feature: 'k;rn'; features are as -liga, kern=2 or ss01[3:5], with commas: 'liga,k;rn'",
+    "--features=kern=4294967296 a": "--features: 'kern=4294967296': a value is at most 4294967295 (HarfBuzz takes 0 here)",
+    "--features=liga,kern=9223372036854775808 a": "--features: 'kern=9223372036854775808': a value is at most 4294967295: ",
+    "--features=liga[0:4294967297] a": "a bound is from -2147483648 to 2147483647 (HarfBuzz takes 1 here)",
     "--lines a --slices": "--slices: with --lines there are none",
     "a --keep-going": "--keep-going: it takes --lines too",
     "a --bot --bot": "--bot: given twice",
 }
-TAKEN = ("a", "a b", "--face=0 a b", "a -- --b", "--lines --keep-going a", "--face 65539 a")
+TAKEN = (
+    "a", "a b", "--face=0 a b", "a -- --b", "--lines --keep-going a", "--face 65539 a",
+    "--features=kern=4294967295,liga[-2147483648:2147483647]=0007 a",
+)  # fmt: skip
 
 
 def own_words(words: str) -> str | None:

@@ -374,6 +374,7 @@ class Commands(unittest.TestCase):
             ("font", "a", "--feature=kern"): "is --features meant?",
             ("font", "a", "--features"): "--features: its value is missing",
             ("font", "a", "--features=kern=1,toolong"): "no feature: 'toolong'",
+            ("font", "a", "--features=kern=4294967301"): "'kern=4294967301': a value is at most 4294967295 \\(HarfBuzz takes 5",
             ("font", "a", "--json=1"): "--json: it takes no value",
             ("font", "a", "--direction=up"): "a direction begins with",
             ("font", "a", "--script=Arabic"): "a tag of four letters",
