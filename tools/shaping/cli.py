@@ -5,7 +5,7 @@ from dataclasses import replace
 from pathlib import Path
 from typing import Callable
 
-from building.places import KUSPVELI
+from building.places import KUSPVELI, PROGRAM
 from building.ready import ready_program
 from common.faults import DATA, SHAPING, WORDS, ToolFault
 from common.files import check_regular, write_file
@@ -14,7 +14,7 @@ from fontjson.variations import Place
 from formats.sfnt import is_font_file
 from shaping.glyphs import as_json, clean_lines, read_line, with_names
 from shaping.locales import locale_language
-from shaping.options import NAME, Given, read_words, usage
+from shaping.options import NAME, VERSION_WORDS, Given, read_words, usage
 from shaping.program import Line, Shaped, shape_texts, told
 from shaping.program_words import is_text
 from shaping.sources import Converted, FontFile, Source, is_json
@@ -30,8 +30,12 @@ STANDARD_INPUT = STANDARD_OUTPUT = "-"
 
 def main(words: list[str]) -> int:
     """Shapes; its status is the program's, of several texts that of the first fault."""
-    if "-h" in words or "--help" in words:
+    asked = words[: words.index("--")] if "--" in words else words
+    if "-h" in asked or "--help" in asked:
         emit(usage() + "\n")
+        return 0
+    if any(word in VERSION_WORDS for word in asked):
+        emit(own_version())
         return 0
     given = read_words(words)
     check_words(given)
@@ -44,6 +48,13 @@ def main(words: list[str]) -> int:
         file = FontFile(ready_program(NAME, target=KUSPVELI), given.font, given.font_index)
         return shape_and_show(file, texts, given)
     return shape_converted(texts, given)
+
+
+def own_version() -> str:
+    """The version, and the programs by which font files are shaped, and fonts that are JSON."""
+    from shaping.command import told_version  # few runs need it
+
+    return "".join(f"{line}\n" for line in told_version(KUSPVELI, PROGRAM))
 
 
 def shape_converted(texts: Texts, given: Given) -> int:

@@ -14,11 +14,12 @@ from common.faults import WORDS, ToolFault
 from common.printing import emit, tell
 from common.version import version
 from shaping import program_words, reasons
+from shaping.options import VERSION_WORDS
 from shaping.program_words import usage, word_fault
 from sources.crates import ROOT
 
 NAME, FONT_NAME = PROGRAM.name, KUSPVELI.name
-HELP, VERSION = ("--help", "-h"), ("--version", "-V")
+HELP = ("--help", "-h")
 ENDS = (signal.SIGTERM, signal.SIGHUP)
 # Where the program kuspveli has what it says of its words.
 TEXTS = ROOT / "crates" / "shell_font_run" / "src" / "texts.rt"
@@ -30,7 +31,7 @@ def main(words: list[str]) -> int:
     if any(word in HELP for word in words):
         print(usage())
         return 0
-    if any(word in VERSION for word in words):
+    if any(word in VERSION_WORDS for word in words):
         print("\n".join(told_version(PROGRAM)))
         return 0
     return run_command(words, PROGRAM, program_words.HB_SHAPE, reasons.hb_shape_reasons)
@@ -43,7 +44,7 @@ def font_main(words: list[str]) -> int:
         # What it says of itself is worth no build.
         emit(own_usage())
         return 0
-    if any(word in VERSION for word in asked):
+    if any(word in VERSION_WORDS for word in asked):
         print("\n".join(told_version(KUSPVELI)))
         return 0
     return run_command(words, KUSPVELI, program_words.KUSPVELI, reasons.kuspveli_reasons)
@@ -94,15 +95,15 @@ def take_signals() -> None:
     signal.pthread_sigmask(signal.SIG_UNBLOCK, ENDS)
 
 
-def told_version(target: Target = PROGRAM) -> list[str]:
-    """The version, and which program is built, of which sources, by which kit."""
+def told_version(*targets: Target) -> list[str]:
+    """The version, and of each program which one is built, of which sources, by which kit."""
     lines = [f"Kuspveli {version()}"]
-    for place in (Place(target, True), Place(target, False)):
+    for place in (Place(target, is_proved) for target in targets for is_proved in (True, False)):
         stamp = place.stamp()
         if stamp is not None:
             how = f"proved by {stamp.kit}" if place.is_proved else f"unproved, compiled by {stamp.kit}"
             other = "" if place.is_current() else ", of other sources than stand here now"
             lines.append(f"{place.file.relative_to(place.root)}: {how}{other}")
         elif place.is_proved:
-            lines.append(f"no proved program is built ({BUILD} builds it)")
+            lines.append(f"no proved {place.target.name} is built ({BUILD} builds it)")
     return lines

@@ -200,7 +200,9 @@ OPTIONS = (
     Option("show-extents", "print the box of each glyph"),
     Option("show-flags", "print glyph flags"),
 )
+VERSION = Option("version", "print the version, and which programs are built that shape texts (-V)")
 OTHER_NAMES = {"index": "font-index", "face-index": "font-index"}
+VERSION_WORDS = ("--version", "-V")
 # Short names, with a value as a word of its own or right after them.
 SHORT_NAMES = {"-u": "unicodes", "-O": "output-format"}
 REPEATED = ("features",)
@@ -255,7 +257,7 @@ class Given:
 def usage() -> str:
     """The help: what the words are, examples, and each option."""
     lines = []
-    for option in OPTIONS:
+    for option in (*OPTIONS, VERSION):
         shown = f"--{option.name}={option.value}" if option.value else f"--{option.name}"
         lines.append(f"  {shown:<31}{option.about}\n")
     return f"{HELP}options:\n{''.join(lines)}{AFTER}"

@@ -235,15 +235,15 @@ class Versions(unittest.TestCase):
             places = [Place(PROGRAM, is_proved, root) for is_proved in (True, False)]
             with mock.patch.object(command, "Place", lambda target, is_proved: Place(target, is_proved, root)):
                 self.assertEqual(
-                    command.told_version(),
-                    [f"Kuspveli {version()}", "no proved program is built (tools/build builds it)"],
+                    command.told_version(PROGRAM),
+                    [f"Kuspveli {version()}", "no proved hb_shape is built (tools/build builds it)"],
                 )
                 for place, sources in zip(places, ("another", "sources")):
                     with mock.patch("building.places.stamp_of", lambda *_: "sources"):
                         place.write_stamp(sources, "kit 1")
                 os.utime(root / "crates.txt")
                 with mock.patch("building.places.stamp_of", lambda *_: "sources"):
-                    told = command.told_version()
+                    told = command.told_version(PROGRAM)
         self.assertEqual(told[1], "out/hb_shape: proved by kit 1, of other sources than stand here now")
         self.assertEqual(told[2], "out/unproved/hb_shape: unproved, compiled by kit 1")
 

@@ -7,6 +7,7 @@ import importlib.util
 import io
 import json
 import os
+import re
 import shutil
 import subprocess
 import sys
@@ -23,6 +24,7 @@ from support import DEJAVU, NASKH, needs_kuspveli, run
 
 from building.places import PROGRAM, standing
 from common.faults import ToolFault
+from common.version import version
 from fontTools.ttLib import TTFont
 from fontTools.ttLib.tables.DefaultTable import DefaultTable
 from formats.rules import font_faults
@@ -399,6 +401,17 @@ class Commands(unittest.TestCase):
                 self.assertRaisesRegex(ToolFault, says.replace("?", r"\?"), cli.main, list(words))
         self.assertFalse(self.cache.exists())
 
+    def test_version(self) -> None:
+        """The version, and which program shapes font files and which one JSON, or that none is built."""
+        says = rf"\AKuspveli {re.escape(version())}\n.*\bkuspveli\b.*\n(.*\n)?.*\bhb_shape\b.*\n"
+        for words in (["--version"], ["font", "a", "-V"]):
+            with contextlib.redirect_stdout(io.StringIO()) as shown:
+                self.assertEqual(cli.main(words), 0)
+            self.assertRegex(shown.getvalue(), says)
+        with contextlib.redirect_stdout(io.StringIO()) as shown:
+            self.assertRaises(FileNotFoundError, cli.main, ["/none", "--", "-V"])
+        self.assertEqual(shown.getvalue(), "")
+
     def test_help(self) -> None:
         for words in (["--help"], ["-h"], ["font", "--help"]):
             with contextlib.redirect_stdout(io.StringIO()) as shown:
@@ -406,6 +419,7 @@ class Commands(unittest.TestCase):
             self.assertEqual(shown.getvalue(), usage() + "\n")
         self.assertTrue(all(f"--{option.name}" in usage() for option in OPTIONS))
         self.assertIn("examples:\n", usage())
+        self.assertRegex(usage(), r"\n  --version +print the version")
         self.assertRegex(usage(), r"Clusters and the\nranges of features are bytes of the text in UTF-8")
 
 
