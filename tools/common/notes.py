@@ -5,32 +5,53 @@ from collections import Counter
 from typing import TextIO
 
 
+# What stands before the lines that nobody needs to act on.
+ADVICE = "what is left out below changes neither glyphs nor positions"
+
+
 class Notes:
     """Counts of what was left out, in the order in which it was first met."""
 
     def __init__(self) -> None:
-        self.counts: Counter[str] = Counter()
-        self.told: list[str] = []
+        self.idle: Counter[str] = Counter()
+        self.asked: Counter[str] = Counter()
+        self.changing: Counter[str] = Counter()
+
+    @property
+    def told(self) -> list[str]:
+        """What is left out though it changes glyphs or positions, so that each run tells it."""
+        return list(self.changing)
 
     def left_out(self, what: str, times: int = 1) -> None:
-        """Counts something that the format has no word for."""
-        if times > 0:
-            self.counts[what] += times
+        """Counts something that changes neither glyphs nor positions."""
+        count(self.idle, what, times)
+
+    def left_out_as_asked(self, what: str, times: int = 1) -> None:
+        """Counts something that an option leaves out."""
+        count(self.asked, what, times)
 
     def changed(self, what: str, times: int = 1) -> None:
-        """Counts something that is left out though it changes glyphs or positions, so that each run tells it."""
-        self.left_out(what, times)
-        if times > 0 and what not in self.told:
-            self.told.append(what)
+        """Counts something that changes glyphs or positions."""
+        count(self.changing, what, times)
 
     def lines(self) -> list[str]:
         """One line a kind, with how often it was left out; first those that change glyphs or positions."""
-        first = [f"left out, and it changes glyphs or positions: {what} ({self.counts[what]})" for what in self.told]
-        return first + self.others()
+        first = [f"left out, and it changes glyphs or positions: {each}" for each in counted(self.changing)]
+        return first + [f"left out as asked: {each}" for each in counted(self.asked)] + self.others()
 
     def others(self) -> list[str]:
-        """The lines of what changes neither glyphs nor positions."""
-        return [f"left out: {what} ({times})" for what, times in self.counts.items() if what not in self.told]
+        """The lines of what changes neither glyphs nor positions, after one that says so."""
+        lines = [f"left out: {each}" for each in counted(self.idle)]
+        return [ADVICE, *lines] if lines else []
+
+
+def count(counts: Counter[str], what: str, times: int) -> None:
+    if times > 0:
+        counts[what] += times
+
+
+def counted(counts: Counter[str]) -> list[str]:
+    return [f"{what} ({times})" for what, times in counts.items()]
 
 
 class Progress:

@@ -50,8 +50,8 @@ def keep_layout(table: dict[str, Any], kept: Kept, notes: Notes) -> dict[str, An
         return table
     features = [n for n, row in enumerate(table["features"]) if kept.features is None or row[0] in kept.features]
     lookups = [n for n in reachable(table, features) if stays(table["lookups"][n], kept)]
-    notes.left_out("lookups that were not asked for", len(table["lookups"]) - len(lookups))
-    notes.left_out("features that were not asked for", len(table["features"]) - len(features))
+    notes.left_out_as_asked("lookups", len(table["lookups"]) - len(lookups))
+    notes.left_out_as_asked("features", len(table["features"]) - len(features))
     new_feature = {old: new for new, old in enumerate(features)}
     new_lookup = {old: new for new, old in enumerate(lookups)}
     return {

@@ -331,7 +331,8 @@ class Commands(unittest.TestCase):
         texts = self.folder / "texts"
         texts.write_text("a\nb\n")
         first, second = self.shape("a")[2], self.shape(f"--text-file={texts}")[2]
-        self.assertIn("left out: table MATH (1)\n", first)
+        advice = f"shape: {self.font}: what is left out below changes neither glyphs nor positions\n"
+        self.assertIn(f"{advice}shape: {self.font}: left out: table MATH (1)\n", first)
         self.assertEqual((first.count(says), second), (1, says))
 
     def test_told_tables(self) -> None:

@@ -218,7 +218,11 @@ class WrittenFont(unittest.TestCase):
                 font[tag] = DefaultTable(tag)
                 font[tag].data = bytes(4)
             font.save(file.name)
-            lines = ("left out, and it changes glyphs or positions: table morx (1)", "left out: table MATH (1)")
+            lines = (
+                "left out, and it changes glyphs or positions: table morx (1)",
+                "what is left out below changes neither glyphs nor positions",
+                "left out: table MATH (1)",
+            )
             told = "".join(f"font_to_json: {file.name}: {line}\n" for line in lines)
             self.assertEqual(told_lines(run("font_to_json", file.name).stderr), told)
             self.assertEqual(told_lines(run("font_to_json", "--quiet", file.name).stderr), "")
