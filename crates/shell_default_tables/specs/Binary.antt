@@ -1,13 +1,15 @@
 -- Tables in binary form.
-use Rattle.std.specs.Prelude.{ℕ, ◌≡◌, if◌then◌else◌, List, Result, Ok, Err}
+use Rattle.std.specs.Prelude.{ℕ, ◌≡◌, ◌⊎◌, if◌then◌else◌, List, Result, Ok, Err}
+use Rattle.buffer_unicode.specs.declared.fault.TablesFault.TheVariants.{SplitDepth}
+use Rattle.buffer_unicode_tables.specs.Lawful.{IsLawful}
 use Rattle.font_bytes.specs.Results.{and_then}
 use Rattle.font_bytes.specs.Words.{fits}
 use Rattle.buffer_unicode_tables.specs.Tables.{Tables}
 use Rattle.script_categories.specs.Machines.{Machines}
 use Rattle.shell_default_tables.specs.declared.tables.DefaultTables.{DefaultTables}
 use Rattle.shell_tables_bytes.specs.declared.fault.BinaryFault.{BinaryFault}
-use Rattle.shell_tables_bytes.specs.declared.fault.BinaryFault.TheVariants.{Short}
-use Rattle.shell_tables_bytes.specs.Characters.{characters_of}
+use Rattle.shell_tables_bytes.specs.declared.fault.BinaryFault.TheVariants.{Rows, Short, Unlawful}
+use Rattle.shell_tables_bytes.specs.Characters.{AreDeep, characters_of}
 use Rattle.shell_tables_bytes.specs.Languages.{Language, languages_in, languages_of}
 use Rattle.shell_tables_bytes.specs.Machines.{machines_of}
 
@@ -36,3 +38,16 @@ sections_of bytes = and_then (characters_of bytes) (λ t. with_rest t bytes)
 -- the tables of bytes, lawful or not, whatever the length of their chains of decompositions
 unfoldable pub binary_tables : List ℕ → Result TablesValue BinaryFault
 binary_tables bytes = if fits bytes 0 160 then sections_of bytes else Err Short
+
+-- why tables that are read from bytes are refused: the first fault, or a chain of first halves of more than eight
+-- decompositions
+abbrev pub IsFaultOf : List ℕ → Result TablesValue BinaryFault → BinaryFault → Type 0
+IsFaultOf bytes read e = (read ≡ Err e) ⊎ ((e ≡ Rows SplitDepth) × AreDeep bytes)
+
+-- tables of bytes that break a law of tables of characters
+unfoldable pub AreUnlawful : List ℕ → Type 0
+AreUnlawful bytes = (t : TablesValue) × (binary_tables bytes ≡ Ok t) × (¬ IsLawful t.characters)
+
+-- why lawful tables of bytes are refused: a fault, or a law that they break
+unfoldable pub IsRefusalOf : List ℕ → BinaryFault → Type 0
+IsRefusalOf bytes e = IsFaultOf bytes (binary_tables bytes) e ⊎ ((e ≡ Unlawful) × AreUnlawful bytes)

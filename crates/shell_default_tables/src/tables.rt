@@ -3,11 +3,10 @@ ghost use Rattle.std.specs.Prelude.{◌≡◌, ◌≢◌, ◌≤◌, IfOk, IfErr
 ghost use Rattle.buffer_unicode_tables.specs.Lawful.{IsLawful};
 ghost use Rattle.buffer_unicode_tables.specs.Tables.{Tables};
 ghost use Rattle.shell_tables_bytes.specs.Languages.{languages_in};
-ghost use Rattle.shell_default_tables.specs.Binary.{binary_tables, sections_of, value_of_tables, with_rest};
+ghost use Rattle.shell_default_tables.specs.Binary.{IsFaultOf, IsRefusalOf, binary_tables, sections_of, value_of_tables, with_rest};
 
 use crate::bytes::TABLES;
 use buffer_tags::language_table::LanguageTable;
-use buffer_unicode::TablesFault;
 use buffer_unicode_tables::UnicodeTables;
 use font_bytes::words::fits;
 use script_categories::SyllableTable;
@@ -29,23 +28,22 @@ pub struct DefaultTables {
 ///
 /// # Errors
 ///
-/// Lack of memory. The other faults are of bytes that the library doesn't have.
+/// Lack of memory. The other faults are of bytes that the library doesn't have: that of a row, of a chain of decompositions,
+/// or of a law.
 pub fn default_tables(alloc: Global) -> Result<DefaultTables, BinaryFault>
     ensures ok { IfOk result (λ t. binary_tables TABLES.now ≡ Ok (value_of_tables t)) }
     ensures lawful { IfOk result (λ t. IsLawful t.characters) }
-    ensures refused { IfErr result (λ e. e ≢ BinaryFault.OutOfMemory
-        → e ≢ BinaryFault.Rows TablesFault.SplitDepth → e ≢ BinaryFault.Unlawful → binary_tables TABLES.now ≡ Err e) }
+    ensures refused { IfErr result (λ e. e ≢ BinaryFault.OutOfMemory → IsRefusalOf TABLES.now e) }
 {
     read_lawful_tables(alloc, TABLES)
 }
 
 /// The tables of bytes, which must be lawful.
+#[tactic(auto, using(crate::proofs::Refused::fault_refused, crate::proofs::Refused::laws_refused))]
 fn read_lawful_tables(alloc: Global, bytes: &[u8]) -> Result<DefaultTables, BinaryFault>
     ensures ok { IfOk result (λ t. binary_tables bytes.now ≡ Ok (value_of_tables t)) }
     ensures lawful { IfOk result (λ t. IsLawful t.characters) }
-    ensures refused { IfErr result (λ e. e ≢ BinaryFault.OutOfMemory
-        → e ≢ BinaryFault.Rows TablesFault.SplitDepth → e ≢ BinaryFault.Unlawful
-        → binary_tables bytes.now ≡ Err e) }
+    ensures refused { IfErr result (λ e. e ≢ BinaryFault.OutOfMemory → IsRefusalOf bytes.now e) }
 {
     let tables = read_tables(alloc, bytes)?;
     match check_laws(&tables.characters) {
@@ -73,8 +71,7 @@ fn check_laws(tables: &UnicodeTables) -> Result<(), BinaryFault>
 #[tactic(auto, unfolding(crate::specs::Binary::binary_tables))]
 fn read_tables(alloc: Global, bytes: &[u8]) -> Result<DefaultTables, BinaryFault>
     ensures ok { IfOk result (λ t. binary_tables bytes.now ≡ Ok (value_of_tables t)) }
-    ensures refused { IfErr result (λ e. e ≢ BinaryFault.OutOfMemory
-        → e ≢ BinaryFault.Rows TablesFault.SplitDepth → binary_tables bytes.now ≡ Err e) }
+    ensures refused { IfErr result (λ e. e ≢ BinaryFault.OutOfMemory → IsFaultOf bytes.now (binary_tables bytes.now) e) }
 {
     if !fits(bytes, 0, HEADER) {
         return Err(BinaryFault::Short);
@@ -83,11 +80,11 @@ fn read_tables(alloc: Global, bytes: &[u8]) -> Result<DefaultTables, BinaryFault
 }
 
 /// The sections after a whole header.
+#[tactic(auto, using(crate::proofs::Refused::rows_refused, crate::proofs::Refused::rest_refused))]
 fn read_sections(alloc: Global, bytes: &[u8]) -> Result<DefaultTables, BinaryFault>
     requires { HEADER ≤ length bytes.now }
     ensures ok { IfOk result (λ t. sections_of bytes.now ≡ Ok (value_of_tables t)) }
-    ensures refused { IfErr result (λ e. e ≢ BinaryFault.OutOfMemory
-        → e ≢ BinaryFault.Rows TablesFault.SplitDepth → sections_of bytes.now ≡ Err e) }
+    ensures refused { IfErr result (λ e. e ≢ BinaryFault.OutOfMemory → IsFaultOf bytes.now (sections_of bytes.now) e) }
 {
     let characters = read_characters(alloc, bytes)?;
     match read_other_tables(alloc, bytes) {

@@ -2,10 +2,17 @@
 use Rattle.std.proofs.Common.{ℕ, ◌≡◌, List, Ok, Err, Result, refl, sym, ap}
 use Rattle.font_file.specs.declared.parts.FontParts.{FontParts}
 use Rattle.layout_face.specs.declared.parts.FaceParts.{FaceParts}
+use Rattle.shell_default_tables.specs.Binary.{IsRefusalOf}
+use Rattle.shell_default_tables.specs.declared.bytes.TheConstants.{TABLES}
 use Rattle.shell_readers.specs.declared.fault.RunFault.{RunFault}
+use Rattle.shell_readers.specs.declared.fault.RunFault.TheVariants.{Unlawful}
 use Rattle.shell_readers.specs.Input.{with_font}
 use Rattle.shell_readers.specs.Tables.{RunTables}
 use Rattle.shell_fonts.specs.Fonts.{AreLibraryTables, IsFontInput, font_of}
+use Rattle.shell_tables_bytes.specs.declared.fault.BinaryFault.{BinaryFault}
+
+pub library_refused : (cause : BinaryFault) → IsRefusalOf TABLES.now cause → AreLibraryTables (Err Unlawful)
+library_refused cause is = (refl, cause, is)
 
 module _ (parts : FontParts) (bytes : List ℕ) (index : ℕ) where
   joined : (t : RunTables) (r : Result FaceParts RunFault) → AreLibraryTables (Ok t) → font_of parts bytes index ≡ r → IsFontInput parts bytes index (with_font r t)

@@ -5,7 +5,7 @@ use Rattle.buffer_unicode_tables.specs.Lawful.{IsLawful}
 use Rattle.font_bytes.specs.declared.font_fault.FontFault.{FontFault}
 use Rattle.font_file.specs.Face.{face_in}
 use Rattle.font_file.specs.declared.parts.FontParts.{FontParts}
-use Rattle.shell_default_tables.specs.Binary.{TablesValue, binary_tables}
+use Rattle.shell_default_tables.specs.Binary.{IsRefusalOf, TablesValue, binary_tables}
 use Rattle.shell_default_tables.specs.declared.bytes.TheConstants.{TABLES}
 use Rattle.shell_readers.specs.declared.fault.RunFault.{RunFault}
 use Rattle.shell_readers.specs.declared.fault.RunFault.TheVariants.{Unlawful}
@@ -13,15 +13,16 @@ use Rattle.shell_readers.specs.Fault.{fault_of_font}
 use Rattle.shell_readers.specs.Input.{RunParts, with_font}
 use Rattle.shell_readers.specs.Tables.{RunTables}
 use Rattle.shell_readers.specs.Values.{then_run}
+use Rattle.shell_tables_bytes.specs.declared.fault.BinaryFault.{BinaryFault}
 
 -- tables that were read in binary form, as those of a run
 abbrev pub run_tables : TablesValue → RunTables
 run_tables t = record { characters = t.characters; syllables = t.syllables; languages = t.languages }
 
--- the tables of the library's bytes, which are lawful; bytes that it doesn't have would be refused as unlawful
+-- the tables of the library's bytes, which are lawful; bytes that are refused are unlawful
 abbrev pub AreLibraryTables : Result RunTables RunFault → Type 0
 AreLibraryTables (Ok t) = (read : TablesValue) × (binary_tables TABLES.now ≡ Ok read) × (t ≡ run_tables read) × IsLawful t.characters
-AreLibraryTables (Err e) = e ≡ Unlawful
+AreLibraryTables (Err e) = (e ≡ Unlawful) × (cause : BinaryFault) × IsRefusalOf TABLES.now cause
 
 -- a font of a file, whose fault is the run's
 abbrev pub of_font : Result FaceParts FontFault → Result FaceParts RunFault

@@ -18,7 +18,8 @@ use std::alloc::Global;
 ///
 /// # Errors
 ///
-/// Lack of memory. `Unlawful` is of bytes that the library doesn't have.
+/// Lack of memory. `Unlawful` is of bytes that the library doesn't have: refused ones, or ones that break a law.
+#[tactic(auto, using(crate::proofs::Reading::library_refused))]
 pub fn library_tables(alloc: Global) -> Result<TextTables, RunFault>
     ensures ok { IfOk result (λ t. AreLibraryTables (Ok (tables_value t))) }
     ensures refused { IfErr result (λ e. e ≢ RunFault.OutOfMemory → AreLibraryTables (Err e)) }
