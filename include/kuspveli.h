@@ -19,7 +19,8 @@
  *   - The stack has 384 KiB left for a call that reads tables or a font, whatever they nest, 128 KiB for any other.
  *   - No call comes from a signal handler.
  *   - malloc, realloc and free are the C library's, and nothing else frees or writes what they gave to the library.
- * No call ends the process, prints, locks, calls back, or keeps a pointer that it was passed.
+ * No call ends the process, prints, locks, calls back (but the inline kus_shape_measured), or keeps a pointer that it was
+ * passed.
  */
 #ifndef KUSPVELI_H
 #define KUSPVELI_H
@@ -86,7 +87,11 @@ enum {
   KUS_FONT_ORDER = 22,
   KUS_FONT_INDEX = 23,
   KUS_FONT_MISSING = 24,
-  KUS_FONT_TOO_LARGE = 25
+  KUS_FONT_TOO_LARGE = 25,
+  /* of advances: other handles share the font; the font has no advance of a glyph; an advance is above 65535 */
+  KUS_SHARED_FONT = 26,
+  KUS_NO_GLYPH = 27,
+  KUS_ADVANCE_RANGE = 28
 };
 
 /* What of a font file is not read. Without the boxes of glyphs no glyph has one, also where marks are placed by boxes,
@@ -182,11 +187,22 @@ typedef struct {
   uint32_t codepoint, mask, cluster, var1, var2;
 } kus_glyph_info_t;
 
-/* hb_glyph_position_t, in font units */
+/* The advance that a client gives a glyph in a horizontal line, in font units, at most 65535. */
+typedef struct {
+  uint32_t glyph, advance;
+} kus_glyph_advance_t;
+
+/* hb_glyph_position_t, in font units or in the scale that is set */
 typedef struct {
   int32_t x_advance, y_advance, x_offset, y_offset;
   uint32_t var;
 } kus_glyph_position_t;
+
+/* hb_font_extents_t, in font units: the ascender above the baseline, the descender below it, which is mostly negative, and
+ * what is left between two lines. */
+typedef struct {
+  int32_t ascender, descender, line_gap;
+} kus_line_metrics_t;
 
 /* hb_glyph_extents_t, in font units; the height is negative where y grows upward. */
 typedef struct {
@@ -257,8 +273,8 @@ kus_font_create_from_bytes (kus_font_t *font, kus_tables_t *tables, const uint8_
 size_t kus_describe_fault (const uint8_t *bytes, size_t length, size_t index, uint32_t flags, uint8_t *text,
                            size_t text_room);
 
-/* Makes `other` another handle of the font, which shares what was read; a font that `other` had is dropped. On a fault
- * both stay as they were. */
+/* Makes `other` another handle of the font, which shares what was read, in the same scale; a font that `other` had is
+ * dropped. On a fault both stay as they were. */
 kus_status_t kus_font_reference (kus_font_t *font, kus_font_t *other);
 
 /* Leaves KUS_FONT_INIT. What was read is freed with its last handle. */
@@ -273,6 +289,21 @@ kus_status_t kus_shape (kus_font_t *font, const kus_text_t *text, kus_glyph_info
 /* Writes the glyphs of the last text of this handle, as far as there is room, and returns how many there are. */
 size_t kus_get_glyphs (kus_font_t *font, kus_glyph_info_t *infos, size_t infos_room, kus_glyph_position_t *positions,
                        size_t positions_room);
+
+/* Gives glyphs advances in a horizontal line, in font units, as a client measures them (hinted ones, say): from then on
+ * texts are shaped as in a font with these advances, so marks that are attached and cursive chains have them in their
+ * offsets. Of a glyph that is named twice the last advance counts; the other glyphs keep theirs. The first one that can't
+ * be set refuses the list: KUS_NO_GLYPH where the font has no advance of the glyph, KUS_ADVANCE_RANGE where it is above
+ * 65535. Where other handles share the font, it is KUS_SHARED_FONT. Then nothing changes. The glyphs of the last text stay
+ * as they are, and plans are kept. */
+kus_status_t kus_font_set_advances (kus_font_t *font, const kus_glyph_advance_t *advances, size_t count);
+
+/* Sets what an em is in the client's units on both axes (hb_font_set_scale); y may be negative. From then on positions are
+ * handed out in these units, those of the last text too: an advance is rounded by itself as HarfBuzz does, and within a
+ * cluster the point where each glyph is drawn is rounded once, so a mark stays on its base, whatever the advances between
+ * them were rounded to. What doesn't fit 32 bits is the nearest number that does. 0 on both axes: font units, as at first.
+ * What a font says of itself stays in font units. */
+kus_status_t kus_font_set_scale (kus_font_t *font, int32_t x_scale, int32_t y_scale);
 
 /* The direction and the script by which the last text of this handle was shaped, set or guessed; 0 where there is
  * none. */
@@ -296,6 +327,10 @@ uint32_t kus_font_get_upem (kus_font_t *font);
 /* The height of the ascender above the baseline, in font units; 0 where the font gives none. */
 int32_t kus_font_get_ascender (kus_font_t *font);
 
+/* Whether the font's file gives metrics of lines (hb_font_get_h_extents), which are then written: of OS/2 where it prefers
+ * its typographic ones, else of hhea, else of OS/2. A font of JSON has none but its ascender. */
+bool kus_font_get_line_metrics (kus_font_t *font, kus_line_metrics_t *metrics);
+
 /* Whether the font has a glyph for a character; *glyph is that glyph, else 0. */
 bool kus_font_get_nominal_glyph (kus_font_t *font, uint32_t unicode, uint32_t *glyph);
 
@@ -316,6 +351,49 @@ int32_t kus_font_get_glyph_v_advance (kus_font_t *font, uint32_t glyph);
  * many there are. */
 size_t kus_font_get_feature_tags (kus_font_t *font, uint32_t table, uint32_t *tags, size_t tags_room);
 size_t kus_font_get_script_tags (kus_font_t *font, uint32_t table, uint32_t *tags, size_t tags_room);
+
+/* A client's advances by a call, which answers that of a glyph in font units. It is asked once for each glyph; what was
+ * asked for is noted in `asked`, which begins with zeros. One of these is for one font, whose handle alone has it. */
+typedef struct {
+  uint32_t (*advance) (void *data, uint32_t glyph);
+  void *data;
+  uint8_t asked[8192];
+} kus_measures_t;
+
+/* Shapes a text by a client's advances: as kus_shape does, then again after glyphs came that no text before had, and whose
+ * advances are others than the font's. Where *count is more than the room, glyphs without room were not asked for: more
+ * room is given and the text is shaped again. It also answers what kus_font_set_advances does, and then *count is 0. */
+static inline kus_status_t
+kus_shape_measured (kus_font_t *font, const kus_text_t *text, kus_glyph_info_t *infos, size_t infos_room,
+                    kus_glyph_position_t *positions, size_t positions_room, size_t *count, kus_measures_t *measures)
+{
+  kus_status_t status;
+  bool is_other;
+  do {
+    size_t at;
+    is_other = false;
+    status = kus_shape (font, text, infos, infos_room, positions, positions_room, count);
+    for (at = 0; status == KUS_OK && at < *count && at < infos_room; at++) {
+      kus_glyph_advance_t given;
+      uint8_t *asked, bit;
+      given.glyph = infos[at].codepoint & 0xFFFF;
+      asked = &measures->asked[given.glyph >> 3];
+      bit = (uint8_t) (1 << (given.glyph & 7));
+      if (*asked & bit)
+        continue;
+      given.advance = measures->advance (measures->data, given.glyph);
+      if ((int64_t) given.advance != kus_font_get_glyph_h_advance (font, given.glyph)) {
+        status = kus_font_set_advances (font, &given, 1);
+        is_other = true;
+      }
+      if (status == KUS_OK)
+        *asked |= bit;
+    }
+  } while (status == KUS_OK && is_other);
+  if (status != KUS_OK)
+    *count = 0;
+  return status;
+}
 
 /* Whether a text writes a request for a feature, which is then in *feature: kern, -liga, aalt=2, "kern"[3:5]=1 and the like
  * (hb_feature_from_string). The numbers in brackets are clusters. */
@@ -441,7 +519,8 @@ kus_status_name (kus_status_t status)
     "OK",          "OutOfMemory", "J1 NotJson",    "J2 WrongShape", "J3 FloatNumber",  "J4 UnknownName",
     "U1 OutOfOrder", "U2 OutOfRange", "U3 SplitDepth", "Unlawful",      "NotUtf8",         "?",
     "S2 TooLong",  "S3 StretchRange", "S4 UnknownSyllableKind", "?", "NoFont",
-    "NoTables", "NoSlices", "OtherFormat", "F1 Short", "F2 Kind", "F3 Order", "F4 Index", "F5 Missing", "F6 TooLarge"
+    "NoTables", "NoSlices", "OtherFormat", "F1 Short", "F2 Kind", "F3 Order", "F4 Index", "F5 Missing", "F6 TooLarge",
+    "SharedFont", "NoGlyph", "AdvanceRange"
   };
   return status < sizeof names / sizeof *names ? names[status] : "?";
 }

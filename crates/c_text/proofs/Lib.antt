@@ -8,3 +8,5 @@ mod Slices
 mod Putting
 pub mod Writing
 mod FeatureTexts
+pub mod Scaling
+mod Advancing

@@ -1,8 +1,8 @@
 -- Fonts as C keeps them, and what a call gives.
-use Rattle.std.specs.Prelude.{ℕ, ◌≡◌, ◌⊎◌, List, Option, Some, None, Ok, Err}
+use Rattle.std.specs.Prelude.{ℕ, ◌≡◌, ◌⊎◌, if◌then◌else◌, List, [], map, Option, Some, None, Ok, Err}
 use Rattle.std.specs.Option.{option_map, option_map_or}
 use Rattle.buffer_core.specs.Segment.{after_guess_segment_properties}
-use Rattle.buffer_core.specs.Sides.{Sides, empty_buffer}
+use Rattle.buffer_core.specs.Sides.{Sides, all_glyphs, empty_buffer}
 use Rattle.buffer_glyphs.specs.declared.cause.ShapeCause.{ShapeCause}
 use Rattle.buffer_tags.specs.declared.feature.Feature.{Feature}
 use Rattle.buffer_tags.specs.LanguageTable.{tags_of_table}
@@ -18,30 +18,64 @@ use Rattle.shell_readers.specs.Fault.{fault_of_cause}
 use Rattle.shell_readers.specs.Input.{IsInput, font_in, input_value}
 use Rattle.shell_readers.specs.declared.tables.TextTables.{TextTables}
 use Rattle.shell_readers.specs.Tables.{AreLawfulTables, tables_value}
+use Rattle.c_text.specs.declared.line_spacing.LineSpacing.{LineSpacing}
+use Rattle.c_text.specs.declared.scale.Scale.{Scale}
+use Rattle.c_text.specs.declared.scale.TheConstants.{NO_SCALE}
 use Rattle.c_text.specs.declared.segment.Segment.{Segment}
 use Rattle.c_text.specs.declared.segment.TheConstants.{NO_SEGMENT}
+use Rattle.c_text.specs.declared.types.kus_glyph_advance_t.{kus_glyph_advance_t}
+use Rattle.c_text.specs.declared.types.kus_glyph_position_t.{kus_glyph_position_t}
 use Rattle.c_text.specs.declared.types.kus_text_t.{kus_text_t}
+use Rattle.c_text.specs.Advances.{advances_refusal, with_advances}
+use Rattle.c_text.specs.LineSpacing.{spacing_in}
 use Rattle.c_text.specs.Numbers.{fault_number}
+use Rattle.c_text.specs.Scale.{is_set, multipliers, scaled_positions}
 use Rattle.c_text.specs.Texts.{IsTextOf, features_of, text_fault}
+use Rattle.c_text.specs.Written.{position_of}
 
--- a font with its tables, and of the last text that was shaped in it the glyphs, the direction and the script
+-- a font with its tables, the metrics of its lines and the scale of its positions, and of the last text that was shaped in it the glyphs, the direction and the script
 pub record KeptFont : Type 0 where
   pub input : RunInput
+  pub line : Option LineSpacing
+  pub scale : Scale
   pub glyphs : Sides
   pub segment : Segment
 
--- a font in which no text was shaped
-abbrev pub new_font : RunInput → KeptFont
-new_font input = record { input = input; glyphs = empty_buffer; segment = NO_SEGMENT }
+-- a font in font units in which no text was shaped
+abbrev pub new_font : Option LineSpacing → RunInput → KeptFont
+new_font line input = record { input = input; line = line; scale = NO_SCALE; glyphs = empty_buffer; segment = NO_SEGMENT }
+
+-- a font without the last text
+abbrev pub without_text : KeptFont → KeptFont
+without_text f = record f { glyphs = empty_buffer; segment = NO_SEGMENT }
+
+-- a font with a client's advances of glyphs; the glyphs of the last text stay as they are
+abbrev pub font_with_advances : List kus_glyph_advance_t → KeptFont → KeptFont
+font_with_advances given f = record f { input = record f.input { face = with_advances given f.input.face } }
+
+-- the positions of the glyphs of a font's last text: in the scale that is set, else in font units
+abbrev pub positions_in : KeptFont → List kus_glyph_position_t
+positions_in f =
+    if is_set f.scale then scaled_positions (multipliers f.input.face.upem f.scale) (all_glyphs f.glyphs) f.glyphs.positions
+    else map position_of f.glyphs.positions
 
 -- the glyphs of a font's last text; none where there is no font
 abbrev pub glyphs_of : Option KeptFont → Sides
 glyphs_of None = empty_buffer
 glyphs_of (Some f) = f.glyphs
 
+-- the positions of the glyphs of a font's last text; none where there is no font
+abbrev pub positions_of : Option KeptFont → List kus_glyph_position_t
+positions_of None = []
+positions_of (Some f) = positions_in f
+
 -- what was read of the font, if there is one
 abbrev pub input_of : Option KeptFont → Option RunInput
 input_of font = option_map (λ (f : KeptFont). f.input) font
+
+-- a font without the last text, if there is one: what no text changes
+abbrev pub textless : Option KeptFont → Option KeptFont
+textless font = option_map without_text font
 
 -- the direction and the script by which a font's last text was shaped; none where there is no font or no text
 abbrev pub segment_in : Option KeptFont → Segment
@@ -51,14 +85,14 @@ segment_in font = option_map_or (λ (f : KeptFont). f.segment) font NO_SEGMENT
 pub record HasRead (tables font : List ℕ) (kept : Option KeptFont) : Type 0 where
   pub input : RunInput
   pub read : IsInput tables font (Ok (input_value input))
-  pub new : kept ≡ Some (new_font input)
+  pub new : kept ≡ Some (new_font None input)
 
 -- a font is what the reader answers to its bytes, over tables that are there
 pub record HasReadOver (shared : Option TextTables) (font : List ℕ) (kept : Option KeptFont) : Type 0 where
   pub input : RunInput
   pub tables : shared ≡ Some input.tables
   pub read : font_in font ≡ Ok input.face
-  pub new : kept ≡ Some (new_font input)
+  pub new : kept ≡ Some (new_font None input)
 
 -- tables are lawful, and what the reader answers to bytes
 pub record HasReadTables (bytes : List ℕ) (kept : Option TextTables) : Type 0 where
@@ -77,14 +111,14 @@ pub record HasReadFileOver (shared : Option TextTables) (parts : FontParts) (byt
   pub input : RunInput
   pub tables : shared ≡ Some input.tables
   pub read : font_of parts bytes index ≡ Ok input.face
-  pub new : kept ≡ Some (new_font input)
+  pub new : kept ≡ Some (new_font (spacing_in bytes index) input)
 
 -- a font is what the reader answers to parts of a font of a font file, over the tables that the library has
 pub record HasReadFile (parts : FontParts) (bytes : List ℕ) (index : ℕ) (kept : Option KeptFont) : Type 0 where
   pub input : RunInput
   pub tables : AreLibraryTables (Ok (tables_value input.tables))
   pub read : font_of parts bytes index ≡ Ok input.face
-  pub new : kept ≡ Some (new_font input)
+  pub new : kept ≡ Some (new_font (spacing_in bytes index) input)
 
 -- the fault of a font file that is read over the tables that the library has: that of these, else the font's
 abbrev pub IsFaultOfFile : FontParts → List ℕ → ℕ → RunFault → Type 0
@@ -137,3 +171,10 @@ pub record IsNumberOf (Holds : RunFault → Type 0) (number : ℕ) : Type 0 wher
   pub fault : RunFault
   pub same : number ≡ fault_number fault
   pub holds : Holds fault
+
+-- ---- settings
+
+-- the number of why a font doesn't take a list of advances, beside that other handles share it: that of the first advance that it doesn't take; 16 where there is no font
+abbrev pub advances_refusal_in : Option KeptFont → List kus_glyph_advance_t → ℕ
+advances_refusal_in None given = 16
+advances_refusal_in (Some f) given = advances_refusal f.input.face given

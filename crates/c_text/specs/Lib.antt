@@ -2,6 +2,9 @@ pub mod Numbers
 pub mod Formats
 pub mod Texts
 pub mod Written
+pub mod Scale
+pub mod Advances
+pub mod LineSpacing
 pub mod Ownership
 pub mod Plans
 pub mod Fonts

@@ -13,8 +13,9 @@ use Rattle.layout_tables.specs.Layout.{LayoutLists}
 use Rattle.shape_slices.specs.declared.slices.SourceSlice.{SourceSlice}
 use Rattle.shape_slices.specs.Fitting.{SlicesFit}
 use Rattle.shape_slices.specs.Runs.{AreSourceSlices}
+use Rattle.c_text.specs.declared.types.kus_line_metrics_t.{kus_line_metrics_t}
 use Rattle.c_text.specs.declared.types.kus_slice_t.{kus_slice_t}
-use Rattle.c_text.specs.Written.{feature_tag, script_tag, slice_of, with_front}
+use Rattle.c_text.specs.Written.{feature_tag, line_metrics_of, script_tag, slice_of, with_front}
 use Rattle.c_text.specs.Fonts.{KeptFont}
 
 -- ---- fonts
@@ -26,6 +27,11 @@ upem_in font = option_map_or (λ (f : KeptFont). f.input.face.upem) font 0
 -- the height of a font's ascender (OpenType, tables OS/2 and hhea), 0 where the font gives none or there is no font
 abbrev pub ascender_in : Option KeptFont → ℤ
 ascender_in font = option_map_or (λ (f : KeptFont). f.input.face.ascender) font (pos 0)
+
+-- the metrics of a font's lines (OpenType, tables hhea and OS/2), none where it was read from JSON or there is no font
+abbrev pub line_metrics_in : Option KeptFont → Option kus_line_metrics_t
+line_metrics_in None = None
+line_metrics_in (Some f) = option_map line_metrics_of f.line
 
 -- the glyph that a font has for a character (OpenType, table cmap); none where the number is no character
 abbrev pub glyph_in : Option KeptFont → ℕ → Option ℕ

@@ -8,6 +8,8 @@ use Rattle.shape_slices.specs.declared.slices.SourceSlice.{SourceSlice}
 use Rattle.c_text.specs.declared.types.kus_glyph_info_t.{kus_glyph_info_t}
 use Rattle.c_text.specs.declared.types.kus_glyph_extents_t.{kus_glyph_extents_t}
 use Rattle.c_text.specs.declared.types.kus_glyph_position_t.{kus_glyph_position_t}
+use Rattle.c_text.specs.declared.line_spacing.LineSpacing.{LineSpacing}
+use Rattle.c_text.specs.declared.types.kus_line_metrics_t.{kus_line_metrics_t}
 use Rattle.c_text.specs.declared.types.kus_slice_t.{kus_slice_t}
 
 -- a glyph, with its three glyph flags as its mask
@@ -25,6 +27,10 @@ slice_of s = record { first_glyph = s.first_glyph; end_glyph = s.end_glyph; star
 -- the box of a glyph's ink
 abbrev pub extents_of : hb_glyph_extents_t → kus_glyph_extents_t
 extents_of e = record { x_bearing = e.x_bearing; y_bearing = e.y_bearing; width = e.width; height = e.height }
+
+-- the metrics of a line
+abbrev pub line_metrics_of : LineSpacing → kus_line_metrics_t
+line_metrics_of l = record { ascender = l.ascender; descender = l.descender; line_gap = l.line_gap }
 
 -- the number of a feature's tag
 abbrev pub feature_tag : FeatureTable → ℕ

@@ -1,20 +1,26 @@
 //! A font as handles keep it: what was read, which they share; plans for texts like the last ones; the last text's glyphs.
-ghost use Rattle.std.specs.Prelude.{◌≡◌, ◌≢◌, IfErr, IfOk, Ok, Err, OnErr, OnOk, false, length, map};
+ghost use Rattle.std.specs.Prelude.{◌≡◌, ◌≢◌, IfErr, IfOk, Ok, Err, OnErr, OnOk, None, false, length, map};
 ghost use Rattle.buffer_core.specs.Sides.{all_glyphs, empty_buffer};
-ghost use Rattle.c_text.specs.Written.{info_of, position_of, with_front};
+ghost use Rattle.c_text.specs.Written.{info_of, with_front};
 ghost use Rattle.shell_fonts.specs.Fonts.{AreLibraryTables, font_of};
 ghost use Rattle.shell_readers.specs.Input.{IsInput, font_in, input_value};
 ghost use Rattle.shell_readers.specs.Tables.{tables_value};
-ghost use Rattle.c_text.specs.Fonts.{AreGlyphsOf, HasSegmentOf, IsFaultOf, IsFaultOfFile, new_font};
+ghost use Rattle.c_text.specs.Advances.{advances_refusal};
+ghost use Rattle.c_text.specs.Fonts.{AreGlyphsOf, HasSegmentOf, IsFaultOf, IsFaultOfFile, font_with_advances, new_font, positions_in, without_text};
+ghost use Rattle.c_text.specs.LineSpacing.{spacing_in};
 ghost use Rattle.c_text.specs.Plans.{HasPlansOf};
 ghost use Rattle.c_text.specs.Queries.{AreSlicesOf, IsSlicesRefusal};
 
 use crate::input::{Input, Tables};
+use crate::line_spacing::{LineSpacing, spacing_in};
 use crate::plan::{KEPT_PLANS, shape_kept};
 use crate::queries::write_slices;
+use crate::scale::{NO_SCALE, Scale, write_scaled};
 use crate::segment::{NO_SEGMENT, Segment, segment_of};
 use crate::texts::{features_of, put_text};
-use crate::types::{kus_glyph_info_t, kus_glyph_position_t, kus_slice_t, kus_text_t};
+use crate::types::{
+    kus_glyph_advance_t, kus_glyph_info_t, kus_glyph_position_t, kus_slice_t, kus_text_t,
+};
 use crate::written::write_front;
 use buffer_core::buffer::hb_buffer_t;
 use buffer_wrappers::glyphs::GlyphBuffer;
@@ -31,6 +37,8 @@ use std::mem;
 pub struct Font {
     input: Input,
     plans: PlanCache,
+    line: Option<LineSpacing>,
+    scale: Scale,
     // The last text's glyphs, in the buffer in which the next text is shaped.
     buffer: hb_buffer_t,
     segment: Segment,
@@ -44,19 +52,26 @@ impl Model for Font {
     ghost use Rattle.c_text.specs.Plans.{HasPlansOf};
     ghost use Rattle.std.specs.Prelude.{◌≡◌, false};
 
-    ghost view = { λ f. record { input = f.input; glyphs = f.buffer; segment = f.segment } };
+    ghost view = { λ f. record { input = f.input; line = f.line; scale = f.scale; glyphs = f.buffer; segment = f.segment } };
 
     ghost invariant = { λ f. (HasPlansOf f.input f.plans) × (f.buffer.is_open ≡ false) };
 }
 
 impl Font {
-    /// Of tables and a font; no text was shaped.
-    fn new(alloc: Global, input: Input) -> Result<Box<Font>, AllocError>
-        ensures { IfOk result (λ f. f.value ≡ new_font input) }
+    /// Of tables and a font, with the metrics of its lines; no text was shaped.
+    fn new(
+        alloc: Global,
+        input: Input,
+        line: Option<LineSpacing>,
+        scale: Scale,
+    ) -> Result<Box<Font>, AllocError>
+        ensures { IfOk result (λ f. f.value ≡ record (new_font line input) { scale = scale }) }
     {
         let font = Font {
             input,
             plans: PlanCache::new(alloc, KEPT_PLANS),
+            line,
+            scale,
             buffer: hb_buffer_t::new(alloc),
             segment: NO_SEGMENT,
         };
@@ -67,26 +82,26 @@ impl Font {
     /// Reads tables and a font.
     #[tactic(auto, using(crate::proofs::Fonts::input_of_font, crate::proofs::Fonts::fault_of_tables, crate::proofs::Fonts::fault_of_font))]
     pub fn read(alloc: Global, tables: &[u8], font: &[u8]) -> Result<Box<Font>, RunFault>
-        ensures new { IfOk result (λ f. f.value ≡ new_font f.value.input) }
+        ensures new { IfOk result (λ f. f.value ≡ new_font None f.value.input) }
         ensures ok { IfOk result (λ f. IsInput tables.now font.now (Ok (input_value f.value.input))) }
         ensures refused { IfErr result (λ e. e ≢ RunFault.OutOfMemory → IsInput tables.now font.now (Err e)) }
     {
         let tables = Tables::read(alloc, tables)?;
         let input = Input::read(alloc, tables, font)?;
-        let made = Font::new(alloc, input)?;
+        let made = Font::new(alloc, input, None, NO_SCALE)?;
         Ok(made)
     }
 
     /// Reads a font over tables, which it shares.
     pub fn read_over(alloc: Global, tables: &Tables, font: &[u8]) -> Result<Box<Font>, RunFault>
-        ensures new { IfOk result (λ f. f.value ≡ new_font f.value.input) }
+        ensures new { IfOk result (λ f. f.value ≡ new_font None f.value.input) }
         ensures tables { IfOk result (λ f. f.value.input.tables ≡ tables.now) }
         ensures ok { IfOk result (λ f. font_in font.now ≡ Ok f.value.input.face) }
         ensures refused { IfErr result (λ e. e ≢ RunFault.OutOfMemory → font_in font.now ≡ Err e) }
     {
         let tables = tables.another()?;
         let input = Input::read(alloc, tables, font)?;
-        let made = Font::new(alloc, input)?;
+        let made = Font::new(alloc, input, None, NO_SCALE)?;
         Ok(made)
     }
 
@@ -98,14 +113,14 @@ impl Font {
         index: usize,
         parts: FontParts,
     ) -> Result<Box<Font>, RunFault>
-        ensures new { IfOk result (λ f. f.value ≡ new_font f.value.input) }
+        ensures new { IfOk result (λ f. f.value ≡ new_font (spacing_in bytes.now index) f.value.input) }
         ensures tables { IfOk result (λ f. f.value.input.tables ≡ tables.now) }
         ensures ok { IfOk result (λ f. font_of parts bytes.now index ≡ Ok f.value.input.face) }
         ensures refused { IfErr result (λ e. e ≢ RunFault.OutOfMemory → font_of parts bytes.now index ≡ Err e) }
     {
         let tables = tables.another()?;
         let input = Input::read_file(alloc, tables, bytes, index, parts)?;
-        let made = Font::new(alloc, input)?;
+        let made = Font::new(alloc, input, spacing_in(bytes, index), NO_SCALE)?;
         Ok(made)
     }
 
@@ -117,23 +132,48 @@ impl Font {
         index: usize,
         parts: FontParts,
     ) -> Result<Box<Font>, RunFault>
-        ensures new { IfOk result (λ f. f.value ≡ new_font f.value.input) }
+        ensures new { IfOk result (λ f. f.value ≡ new_font (spacing_in bytes.now index) f.value.input) }
         ensures tables { IfOk result (λ f. AreLibraryTables (Ok (tables_value f.value.input.tables))) }
         ensures ok { IfOk result (λ f. font_of parts bytes.now index ≡ Ok f.value.input.face) }
         ensures refused { IfErr result (λ e. e ≢ RunFault.OutOfMemory → IsFaultOfFile parts bytes.now index e) }
     {
         let tables = Tables::library(alloc)?;
         let input = Input::read_file(alloc, tables, bytes, index, parts)?;
-        let made = Font::new(alloc, input)?;
+        let made = Font::new(alloc, input, spacing_in(bytes, index), NO_SCALE)?;
         Ok(made)
     }
 
-    /// The same font for another handle, which shares what was read.
+    /// The same font for another handle, which shares what was read, in the same scale.
     pub fn another(&self, alloc: Global) -> Result<Box<Font>, AllocError>
-        ensures { IfOk result (λ f. f.value ≡ new_font self.now.input) }
+        ensures { IfOk result (λ f. f.value ≡ without_text self.now) }
     {
         let input = self.input.another()?;
-        Font::new(alloc, input)
+        Font::new(alloc, input, self.line, self.scale)
+    }
+
+    /// Sets advances of glyphs, in the order of the list; answers a status, and changes nothing where it isn't `OK`. Plans
+    /// stay: none depends on advances.
+    pub fn set_advances(&mut self, given: &[kus_glyph_advance_t]) -> u32
+        ensures set { result ≡ 0 → (advances_refusal self.old.input.face given.now ≡ 0)
+            × (self.new ≡ font_with_advances given.now self.old) }
+        ensures refused { result ≢ 0 → result ≢ 26 → result ≡ advances_refusal self.old.input.face given.now }
+        ensures kept { result ≢ 0 → self.new ≡ self.old }
+    {
+        self.input.set_advances(given)
+    }
+
+    /// Sets the scale in which positions are handed out.
+    pub fn set_scale(&mut self, scale: Scale)
+        ensures { self.new ≡ record self.old { scale = scale } }
+    {
+        self.scale = scale;
+    }
+
+    /// The metrics of a line, where the font was read from a file that gives them.
+    pub fn line(&self) -> Option<LineSpacing>
+        ensures { result ≡ self.now.line }
+    {
+        self.line
     }
 
     /// What was read of the font.
@@ -188,10 +228,10 @@ impl Font {
 
     /// Shapes a text, whose glyphs are then the last ones; on a fault there are none.
     pub fn shape(&mut self, alloc: Global, text: &kus_text_t<'_>) -> Result<(), RunFault>
-        ensures input { self.new.input ≡ self.old.input }
+        ensures rest { without_text self.new ≡ without_text self.old }
         ensures ok { OnOk result (AreGlyphsOf self.old.input text.now self.new.glyphs) }
         ensures segment { OnOk result (HasSegmentOf text.now self.new.segment) }
-        ensures none { OnErr result (self.new ≡ new_font self.old.input) }
+        ensures none { OnErr result (self.new ≡ without_text self.old) }
         ensures refused { IfErr result (λ e. e ≢ RunFault.OutOfMemory → IsFaultOf self.old.input text.now e) }
     {
         self.segment = NO_SEGMENT;
@@ -207,11 +247,24 @@ impl Font {
     ) -> usize
         ensures count { result ≡ length (all_glyphs self.now.glyphs) }
         ensures infos { infos.new ≡ with_front (map info_of (all_glyphs self.now.glyphs)) infos.old }
-        ensures positions { positions.new ≡ with_front (map position_of self.now.glyphs.positions) positions.old }
+        ensures positions { positions.new ≡ with_front (positions_in self.now) positions.old }
     {
         write_front(self.buffer.info_slice(), infos);
-        write_front(self.buffer.pos_slice(), positions);
+        self.write_positions(positions);
         self.buffer.len()
+    }
+
+    /// Writes the positions of the last text's glyphs, in the scale where one is set.
+    fn write_positions(&self, positions: &mut [kus_glyph_position_t])
+        ensures { positions.new ≡ with_front (positions_in self.now) positions.old }
+    {
+        let placed = self.buffer.pos_slice();
+        if !self.scale.is_set() {
+            write_front(placed, positions);
+            return;
+        }
+        let by = self.scale.multipliers(self.input.face().parts().upem);
+        write_scaled(by, self.buffer.info_slice(), placed, positions);
     }
 }
 

@@ -3,7 +3,11 @@ ghost use Rattle.std.specs.Prelude.{◌≡◌, ◌≢◌, IfErr, IfOk, Ok, Err};
 ghost use Rattle.shell_fonts.specs.Fonts.{AreLibraryTables, font_of};
 ghost use Rattle.shell_readers.specs.Input.{font_in};
 ghost use Rattle.shell_readers.specs.Tables.{AreLawfulTables, tables_value};
+ghost use Rattle.c_text.specs.Advances.{advances_refusal, with_advances};
 
+use crate::advances::{advances_refusal, set_own_advances};
+use crate::numbers::{OK, SHARED_FONT};
+use crate::types::kus_glyph_advance_t;
 use buffer_tags::language_table::LanguageTable;
 use font_file::FontParts;
 use layout_face::Face;
@@ -121,6 +125,23 @@ impl Input {
         ensures { result.now ≡ self.now.face }
     {
         &self.face
+    }
+
+    /// Sets advances of glyphs, in the order of the list; answers a status, and changes nothing where it isn't `OK`.
+    pub fn set_advances(&mut self, given: &[kus_glyph_advance_t]) -> u32
+        ensures set { result ≡ 0 → (advances_refusal self.old.face given.now ≡ 0)
+            × (self.new ≡ record self.old { face = with_advances given.now self.old.face }) }
+        ensures refused { result ≢ 0 → result ≢ 26 → result ≡ advances_refusal self.old.face given.now }
+        ensures kept { result ≢ 0 → self.new ≡ self.old }
+    {
+        let refusal = advances_refusal(&self.face, given);
+        if refusal != OK {
+            return refusal;
+        }
+        if !set_own_advances(&mut self.face, given) {
+            return SHARED_FONT;
+        }
+        OK
     }
 
     /// The tables by which texts are shaped.

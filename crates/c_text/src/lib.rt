@@ -2,15 +2,18 @@
 //! it reads, and its numbers of settings and faults. rustybuzz has no interface for C.
 #![tactic(auto)]
 
+pub mod advances;
 pub mod font;
 pub mod formats;
 pub mod handle;
 pub mod input;
+pub mod line_spacing;
 pub mod numbers;
 mod plan;
 pub mod pointer;
 pub mod queries;
 pub mod requests;
+pub mod scale;
 pub mod segment;
 pub mod texts;
 pub mod types;

@@ -34,6 +34,15 @@ pub const NO_SLICES: u32 = 18;
 /// The status where a font was passed as tables, or tables as a font.
 pub const OTHER_FORMAT: u32 = 19;
 
+/// The status where what a font was read to is shared with other handles, and so can't be changed.
+pub const SHARED_FONT: u32 = 26;
+
+/// The status where a font has no advance of a glyph that is given one.
+pub const NO_GLYPH: u32 = 27;
+
+/// The status where an advance is more than 65535.
+pub const ADVANCE_RANGE: u32 = 28;
+
 /// The bits of a text's flags that name an encoding. HarfBuzz's buffer flags have none of them.
 pub const UTF16: u32 = 0x1_0000;
 

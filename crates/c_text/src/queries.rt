@@ -3,13 +3,13 @@
 //! The functions for tags of features and of scripts have one form, over rows of two types.
 ghost use Rattle.std.specs.Prelude.{◌≡◌, ◌≢◌, Some, length};
 ghost use Rattle.std.specs.Option.{option_copied, option_map};
-ghost use Rattle.c_text.specs.Queries.{AreSlicesOf, IsSlicesRefusal, extents_in, feature_tags, glyph_in, h_advance_in, layout_in, name_in, script_tags, v_advance_in};
+ghost use Rattle.c_text.specs.Queries.{AreSlicesOf, IsSlicesRefusal, extents_in, feature_tags, glyph_in, h_advance_in, layout_in, line_metrics_in, name_in, script_tags, v_advance_in};
 ghost use Rattle.c_text.specs.Written.{extents_of, with_front};
 
 use crate::font::Font;
 use crate::numbers::{NO_SLICES, NOT_UTF8, OK, OUT_OF_MEMORY};
-use crate::types::{kus_glyph_extents_t, kus_slice_t};
-use crate::written::{extents_of, write_front};
+use crate::types::{kus_glyph_extents_t, kus_line_metrics_t, kus_slice_t};
+use crate::written::{extents_of, line_metrics_of, write_front};
 use buffer_wrappers::glyphs::GlyphBuffer;
 use layout_face::Face;
 use layout_tables::table::ScriptsAndFeatures;
@@ -44,6 +44,16 @@ pub fn write_slices(
     *count = found.len();
     write_front(found.as_slice(), slices);
     OK
+}
+
+/// The metrics of a line that a font's file gives.
+pub fn line_metrics(font: &Font) -> Option<kus_line_metrics_t>
+    ensures { result ≡ line_metrics_in (Some font.now) }
+{
+    match font.line() {
+        Some(line) => Some(line_metrics_of(line)),
+        None => None,
+    }
 }
 
 /// The glyph that a font has for a character; none where the number is no character.

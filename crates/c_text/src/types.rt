@@ -41,7 +41,15 @@ pub struct kus_glyph_info_t {
     pub var2: u32,
 }
 
-/// The position of a glyph, in font units (`hb_glyph_position_t`).
+/// The advance that a client gives a glyph in a horizontal line, in font units.
+#[repr(C)]
+#[derive(Clone, Copy)]
+pub struct kus_glyph_advance_t {
+    pub glyph: u32,
+    pub advance: u32,
+}
+
+/// The position of a glyph, in font units or in the scale that is set (`hb_glyph_position_t`).
 #[repr(C)]
 #[derive(Clone, Copy)]
 pub struct kus_glyph_position_t {
@@ -61,6 +69,16 @@ pub struct kus_slice_t {
     pub end_glyph: usize,
     pub start: usize,
     pub end: usize,
+}
+
+/// What is above and below the baseline, where the descender is mostly negative, and what is left between two lines, in font
+/// units (`hb_font_extents_t`).
+#[repr(C)]
+#[derive(Clone, Copy)]
+pub struct kus_line_metrics_t {
+    pub ascender: i32,
+    pub descender: i32,
+    pub line_gap: i32,
 }
 
 /// The box of a glyph's ink, in font units; the height is negative where y grows upward (`hb_glyph_extents_t`).

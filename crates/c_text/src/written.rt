@@ -2,9 +2,12 @@
 //!
 //! The records of C have impls of one form.
 ghost use Rattle.std.specs.Prelude.{◌≡◌, map};
-ghost use Rattle.c_text.specs.Written.{extents_of, feature_tag, info_of, position_of, script_tag, slice_of, with_front};
+ghost use Rattle.c_text.specs.Written.{extents_of, feature_tag, info_of, line_metrics_of, position_of, script_tag, slice_of, with_front};
 
-use crate::types::{kus_glyph_extents_t, kus_glyph_info_t, kus_glyph_position_t, kus_slice_t};
+use crate::line_spacing::LineSpacing;
+use crate::types::{
+    kus_glyph_extents_t, kus_glyph_info_t, kus_glyph_position_t, kus_line_metrics_t, kus_slice_t,
+};
 use buffer_glyphs::info::{DEFINED, hb_glyph_info_t};
 use buffer_glyphs::names::hb_glyph_extents_t;
 use buffer_glyphs::position::GlyphPosition;
@@ -119,5 +122,16 @@ pub fn extents_of(extents: hb_glyph_extents_t) -> kus_glyph_extents_t
         y_bearing: extents.y_bearing,
         width: extents.width,
         height: extents.height,
+    }
+}
+
+/// The metrics of a line.
+pub fn line_metrics_of(line: LineSpacing) -> kus_line_metrics_t
+    ensures { result ≡ line_metrics_of line }
+{
+    kus_line_metrics_t {
+        ascender: i32::from(line.ascender),
+        descender: i32::from(line.descender),
+        line_gap: i32::from(line.line_gap),
     }
 }

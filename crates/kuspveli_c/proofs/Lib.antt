@@ -1,3 +1,4 @@
 mod Slices
 mod Results
 mod Told
+mod SetInHandles

@@ -3,14 +3,14 @@
 //! The calls for tables and for a font have one form, since their handles are two types.
 ghost use Rattle.std.specs.Prelude.{◌≡◌, ◌≢◌, ◌↔◌, Err, IfNone, IfSome, IsTrue, None, Some, length, map};
 ghost use Rattle.buffer_core.specs.Sides.{all_glyphs, empty_buffer};
-ghost use Rattle.c_text.specs.Written.{info_of, position_of, with_front};
+ghost use Rattle.c_text.specs.Written.{info_of, with_front};
 ghost use Rattle.c_text.specs.Formats.{are_swapped, is_font, is_tables};
 ghost use Rattle.c_text.specs.Numbers.{count_of, parts_without};
 ghost use Rattle.font_file.specs.Count.{font_count};
 ghost use Rattle.shell_fonts.specs.Fonts.{AreLibraryTables, font_of};
 ghost use Rattle.shell_readers.specs.Input.{IsInput, font_in};
 ghost use Rattle.shell_readers.specs.Tables.{AreLawfulTables};
-ghost use Rattle.c_text.specs.Fonts.{AreGlyphsOf, HasLibraryTables, HasRead, HasReadFile, HasReadFileOver, HasReadOver, HasReadTables, HasSegmentOf, IsFaultOf, IsFaultOfFile, IsNumberOf, glyphs_of, input_of, new_font, segment_in};
+ghost use Rattle.c_text.specs.Fonts.{AreGlyphsOf, HasLibraryTables, HasRead, HasReadFile, HasReadFileOver, HasReadOver, HasReadTables, HasSegmentOf, IsFaultOf, IsFaultOfFile, IsNumberOf, glyphs_of, positions_of, segment_in, textless, without_text};
 
 use c_text::font::Font;
 use c_text::formats::{are_swapped, is_font, is_tables};
@@ -232,12 +232,12 @@ pub extern "C" fn kus_count_fonts(bytes: &[u8]) -> usize
     }
 }
 
-/// Another handle of a font, which shares what was read; a font that the other handle had is dropped. On a fault both
-/// handles stay as they were.
+/// Another handle of a font, which shares what was read, in the same scale; a font that the other handle had is dropped. On
+/// a fault both handles stay as they were.
 #[unsafe(no_mangle)]
 pub extern "C" fn kus_font_reference(alloc: Global, font: &mut Handle, other: &mut Handle) -> u32
     ensures no_font { IfNone font.old.value (result ≡ 16) }
-    ensures shared { result ≡ 0 → IfSome font.old.value (λ f. other.new.value ≡ Some (new_font f.input)) }
+    ensures shared { result ≡ 0 → IfSome font.old.value (λ f. other.new.value ≡ Some (without_text f)) }
     ensures refused { result ≢ 0 → IfSome font.old.value (λ _. result ≡ 1) }
     ensures same { font.new.value ≡ font.old.value }
     ensures kept { result ≢ 0 → other.new.value ≡ other.old.value }
@@ -281,10 +281,10 @@ pub extern "C" fn kus_shape(
     ensures refused { result ≢ 0 → result ≢ 1
         → IfSome font.old.value (λ f. IsNumberOf (IsFaultOf f.input text.now) result) }
     ensures none { result ≢ 0 → glyphs_of font.new.value ≡ empty_buffer }
-    ensures input { input_of font.new.value ≡ input_of font.old.value }
+    ensures rest { textless font.new.value ≡ textless font.old.value }
     ensures count { count.new ≡ length (all_glyphs (glyphs_of font.new.value)) }
     ensures infos { infos.new ≡ with_front (map info_of (all_glyphs (glyphs_of font.new.value))) infos.old }
-    ensures positions { positions.new ≡ with_front (map position_of (glyphs_of font.new.value).positions) positions.old }
+    ensures positions { positions.new ≡ with_front (positions_of font.new.value) positions.old }
 {
     *count = 0;
     let Some(mut kept) = font.take(alloc) else {
@@ -311,7 +311,7 @@ pub extern "C" fn kus_get_glyphs(
     ensures same { font.new.value ≡ font.old.value }
     ensures count { result ≡ length (all_glyphs (glyphs_of font.old.value)) }
     ensures infos { infos.new ≡ with_front (map info_of (all_glyphs (glyphs_of font.old.value))) infos.old }
-    ensures positions { positions.new ≡ with_front (map position_of (glyphs_of font.old.value).positions) positions.old }
+    ensures positions { positions.new ≡ with_front (positions_of font.old.value) positions.old }
 {
     let Some(shown) = font.take(alloc) else {
         return 0;

@@ -5,5 +5,6 @@ pub mod calls;
 pub mod faults;
 pub mod names;
 pub mod queries;
+pub mod settings;
 #[cfg(test)]
 mod tests;

@@ -7,15 +7,15 @@ ghost use Rattle.std.specs.Option.{option_map};
 ghost use Rattle.c_text.specs.Numbers.{direction_number, script_number};
 ghost use Rattle.c_text.specs.Written.{extents_of, with_front};
 ghost use Rattle.c_text.specs.Fonts.{glyphs_of, segment_in};
-ghost use Rattle.c_text.specs.Queries.{AreSlicesOf, IsSlicesFault, ascender_in, extents_in, feature_tags_in, glyph_in, h_advance_in, name_in, script_tags_in, upem_in, v_advance_in};
+ghost use Rattle.c_text.specs.Queries.{AreSlicesOf, IsSlicesFault, ascender_in, extents_in, feature_tags_in, glyph_in, h_advance_in, line_metrics_in, name_in, script_tags_in, upem_in, v_advance_in};
 
 use c_text::handle::Handle;
 use c_text::numbers::{NO_FONT, direction_number, script_number};
 use c_text::queries::{
-    glyph_extents, glyph_h_advance, glyph_name, glyph_v_advance, layout_in, nominal_glyph,
-    write_feature_tags, write_script_tags,
+    glyph_extents, glyph_h_advance, glyph_name, glyph_v_advance, layout_in, line_metrics,
+    nominal_glyph, write_feature_tags, write_script_tags,
 };
-use c_text::types::{kus_glyph_extents_t, kus_slice_t};
+use c_text::types::{kus_glyph_extents_t, kus_line_metrics_t, kus_slice_t};
 use c_text::written::write_front;
 use std::alloc::Global;
 
@@ -106,6 +106,29 @@ pub extern "C" fn kus_font_get_ascender(alloc: Global, font: &mut Handle) -> i32
     let ascender = i32::from(shown.face().ascender());
     font.put(alloc, shown);
     ascender
+}
+
+/// Whether the font's file gives metrics of lines, in font units, which are then written.
+#[unsafe(no_mangle)]
+pub extern "C" fn kus_font_get_line_metrics(
+    alloc: Global,
+    font: &mut Handle,
+    metrics: &mut kus_line_metrics_t,
+) -> bool
+    ensures same { font.new.value ≡ font.old.value }
+    ensures found { result ≡ is_some (line_metrics_in font.old.value) }
+    ensures metrics { metrics.new ≡ unwrap_or (line_metrics_in font.old.value) metrics.old }
+{
+    let Some(shown) = font.take(alloc) else {
+        return false;
+    };
+    let found = line_metrics(&shown);
+    font.put(alloc, shown);
+    let Some(found) = found else {
+        return false;
+    };
+    *metrics = found;
+    true
 }
 
 /// Whether the font has a glyph for a character, and which; 0 where it has none.
