@@ -19,7 +19,7 @@ NAMES = {
     6: "U1 OutOfOrder", 7: "U2 OutOfRange", 8: "U3 SplitDepth", 9: "Unlawful", 10: "NotUtf8", 12: "S2 TooLong",
     13: "S3 StretchRange", 14: "S4 UnknownSyllableKind", 16: "NoFont", 17: "NoTables", 18: "NoSlices",
     19: "OtherFormat", 20: "F1 Short", 21: "F2 Kind", 22: "F3 Order", 23: "F4 Index", 24: "F5 Missing",
-    25: "F6 TooLarge",
+    25: "F6 TooLarge", 26: "SharedFont", 27: "NoGlyph", 28: "AdvanceRange",
 }
 DIRECTIONS = {"": 0, "ltr": 4, "rtl": 5, "ttb": 6, "btt": 7}
 GLOBAL_END = 0xFFFF_FFFF
@@ -78,6 +78,14 @@ class RawSlice(ctypes.Structure):
     _fields_ = [(name, ctypes.c_size_t) for name in ("first_glyph", "end_glyph", "start", "end")]
 
 
+class RawAdvance(ctypes.Structure):
+    _fields_ = [(name, ctypes.c_uint32) for name in ("glyph", "advance")]
+
+
+class RawLineMetrics(ctypes.Structure):
+    _fields_ = [(name, ctypes.c_int32) for name in ("ascender", "descender", "line_gap")]
+
+
 class RawExtents(ctypes.Structure):
     _fields_ = [(name, ctypes.c_int32) for name in ("x_bearing", "y_bearing", "width", "height")]
 
@@ -103,11 +111,14 @@ def load(path: Union[str, "os.PathLike[str]"]) -> ctypes.CDLL:
     declare(found, "kus_font_destroy", None, handle)
     declare(found, "kus_shape", u32, handle, ctypes.POINTER(RawText), *rooms, ctypes.POINTER(size))
     declare(found, "kus_get_glyphs", size, handle, *rooms)
+    declare(found, "kus_font_set_advances", u32, handle, ctypes.POINTER(RawAdvance), size)
+    declare(found, "kus_font_set_scale", u32, handle, ctypes.c_int32, ctypes.c_int32)
     declare(found, "kus_get_direction", u32, handle)
     declare(found, "kus_get_script", u32, handle)
     declare(found, "kus_get_slices", u32, handle, bytes_, size, ctypes.POINTER(RawSlice), size, ctypes.POINTER(size))
     declare(found, "kus_font_get_upem", u32, handle)
     declare(found, "kus_font_get_ascender", ctypes.c_int32, handle)
+    declare(found, "kus_font_get_line_metrics", ctypes.c_bool, handle, ctypes.POINTER(RawLineMetrics))
     declare(found, "kus_font_get_nominal_glyph", ctypes.c_bool, handle, u32, numbers)
     declare(found, "kus_font_get_glyph_name", size, handle, u32, ctypes.c_char_p, size)
     declare(found, "kus_font_get_glyph_extents", ctypes.c_bool, handle, u32, ctypes.POINTER(RawExtents))
@@ -281,8 +292,8 @@ class Feature(NamedTuple):
 
 
 class Glyph(NamedTuple):
-    """A glyph with its position in font units; `cluster` is the index of a byte of the text in UTF-8 (or of what `clusters`
-    names), and `character` that of the same character in the text as a str."""
+    """A glyph with its position in font units, or in the scale that is set; `cluster` is the index of a byte of the text in
+    UTF-8 (or of what `clusters` names), and `character` that of the same character in the text as a str."""
 
     number: int
     cluster: int
@@ -316,6 +327,15 @@ class Slice(NamedTuple):
     end: int
     first_character: int
     end_character: int
+
+
+class LineMetrics(NamedTuple):
+    """What is above and below the baseline, where the descender is mostly negative, and what is left between two lines,
+    in font units."""
+
+    ascender: int
+    descender: int
+    line_gap: int
 
 
 class Extents(NamedTuple):
@@ -384,6 +404,16 @@ def number(value: int, what: str, most: int = 0xFFFF_FFFF) -> int:
     plain = int.__index__(value)
     if not 0 <= plain <= most:
         raise ValueError(f"{what}: {plain} is not from 0 to {most}")
+    return plain
+
+
+def signed(value: int, what: str) -> int:
+    """A number of 32 bits with a sign."""
+    if not isinstance(value, int):
+        raise TypeError(f"{what}: {value!r} is no number")
+    plain = int.__index__(value)
+    if not -(1 << 31) <= plain < 1 << 31:
+        raise ValueError(f"{what}: {plain} is not from -2^31 to 2^31 - 1")
     return plain
 
 
@@ -707,6 +737,26 @@ class Font(Held):
             check(LIBRARY.kus_get_slices(self._handle, own, len(own), slices, most, count))
         return slices[: count.value]
 
+    # -- what a client sets
+
+    def set_advances(self, advances: Mapping[int, int]) -> None:
+        """Gives glyphs advances in a horizontal line, in font units, as a client measures them: from then on texts are
+        shaped as in a font with these advances. Where one of them is refused, with the Fault NoGlyph for a glyph that the
+        font has no advance of, AdvanceRange for one above 65535, or SharedFont where other handles share the font, nothing
+        changes."""
+        given = [(number(glyph, "glyph"), number(advance, "advance")) for glyph, advance in advances.items()]
+        rows = (RawAdvance * max(len(given), 1))(*given)
+        with self._lock:
+            check(LIBRARY.kus_font_set_advances(self._handle, rows, len(given)))
+
+    def set_scale(self, x_scale: int, y_scale: Optional[int] = None) -> None:
+        """Sets what an em is on both axes in units of the caller, in which positions are answered from then on: an advance
+        is rounded by itself, and within a cluster each glyph's point is rounded once. 0 for font units."""
+        x = signed(x_scale, "x_scale")
+        y = x if y_scale is None else signed(y_scale, "y_scale")
+        with self._lock:
+            check(LIBRARY.kus_font_set_scale(self._handle, x, y))
+
     # -- what the font says of itself
 
     def upem(self) -> int:
@@ -718,6 +768,13 @@ class Font(Held):
         """The height of the ascender above the baseline, in font units; 0 where the font gives none."""
         with self._lock:
             return LIBRARY.kus_font_get_ascender(self._handle)
+
+    def line_metrics(self) -> Optional[LineMetrics]:
+        """The metrics of a line in font units, if the font was read from a file that has them."""
+        found = RawLineMetrics()
+        with self._lock:
+            has = LIBRARY.kus_font_get_line_metrics(self._handle, found)
+        return LineMetrics(found.ascender, found.descender, found.line_gap) if has else None
 
     def nominal_glyph(self, character: str) -> Optional[int]:
         """The glyph that the font has for a character, if it has one."""

@@ -202,6 +202,44 @@ class Answered(unittest.TestCase):
         with self.assertRaises(ValueError):
             self.font.feature_tags("GDEF")
 
+    def test_advances(self) -> None:
+        """A font takes a caller's advances, unless one of them is refused or another handle shares it."""
+        faults = (({1: 700, 99: 1}, "NoGlyph"), ({1: 700, 2: 65536}, "AdvanceRange"))
+        for given, wanted in faults:
+            with self.assertRaises(self.binding.Fault) as caught:
+                self.font.set_advances(given)
+            self.assertEqual(str(caught.exception), wanted)
+        self.assertEqual([glyph.x_advance for glyph in self.font.shape("ab")], [500, 600])
+        self.font.set_advances({})
+        self.font.set_advances({1: 900, 7: 0})
+        self.assertEqual([glyph.x_advance for glyph in self.font.shape("abfi")], [900, 600, 0])
+        self.assertEqual(self.font.glyph_h_advance(1), 900)
+        self.assertRaises(ValueError, lambda: self.font.set_advances({1: -1}))
+        self.assertRaises(TypeError, lambda: self.font.set_advances({"a": 1}))
+        other = copy.copy(self.font)
+        with self.assertRaises(self.binding.Fault) as caught:
+            self.font.set_advances({1: 1})
+        self.assertEqual(str(caught.exception), "SharedFont")
+        other.close()
+        self.font.set_advances({1: 1})
+        self.assertEqual([glyph.x_advance for glyph in self.font.shape("ab")], [1, 600])
+
+    def test_scale(self) -> None:
+        """Advances in a scale, as HarfBuzz rounds them, and y offsets by a scale of their own; a copy has the same."""
+        rows = ((2001, (1000, 1201)), (-499, (-249, -299)), (1000, (500, 600)), (0, (500, 600)))
+        for scale, wanted in rows:
+            self.font.set_scale(scale)
+            self.assertEqual(tuple(glyph.x_advance for glyph in self.font.shape("ab")), wanted)
+        self.font.set_scale(1000, -2000)
+        self.assertEqual([glyph.y_advance for glyph in copy.copy(self.font).shape("a", direction="ttb")], [2000])
+        for refused in (1 << 31, -(1 << 31) - 1):
+            self.assertRaises(ValueError, self.font.set_scale, refused)
+        self.assertRaises(TypeError, self.font.set_scale, 1.5)
+
+    def test_line_metrics(self) -> None:
+        self.assertIsNone(self.font.line_metrics())
+        self.assertEqual(self.binding.Font(FILE).line_metrics(), (800, -200, 0))
+
     def test_version(self) -> None:
         """The library's, the header's and that of VERSION are one."""
         numbers = tuple(map(int, (ROOT / "VERSION").read_text(encoding="utf-8").strip().split(".")))

@@ -34,6 +34,12 @@ pub enum Fault {
     FontMissing,
     /// The font has more rows than a font may have.
     FontTooLarge,
+    /// Other handles share the font that was to be changed.
+    SharedFont,
+    /// The font has no advance of a glyph that was given one.
+    NoGlyph,
+    /// An advance is above 65535.
+    AdvanceRange,
     /// A status that the header does not name.
     Other(u32),
 }
@@ -62,6 +68,9 @@ impl Fault {
             23 => Fault::FontIndex,
             24 => Fault::FontMissing,
             25 => Fault::FontTooLarge,
+            26 => Fault::SharedFont,
+            27 => Fault::NoGlyph,
+            28 => Fault::AdvanceRange,
             other => Fault::Other(other),
         }
     }
@@ -98,6 +107,9 @@ impl fmt::Display for Fault {
             Fault::FontIndex => "F4 Index",
             Fault::FontMissing => "F5 Missing",
             Fault::FontTooLarge => "F6 TooLarge",
+            Fault::SharedFont => "SharedFont",
+            Fault::NoGlyph => "NoGlyph",
+            Fault::AdvanceRange => "AdvanceRange",
             Fault::Other(status) => return write!(f, "status {status}"),
         })
     }

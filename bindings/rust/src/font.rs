@@ -108,7 +108,7 @@ impl Font {
         Ok(font)
     }
 
-    /// The same font for another thread. Both share what was read.
+    /// The same font for another thread, in the same scale. Both share what was read.
     pub fn another(&mut self) -> Result<Font, Fault> {
         let mut font = Font::empty();
         Fault::check(unsafe { kus_font_reference(&mut self.handle, &mut font.handle) })?;
@@ -200,6 +200,26 @@ impl Font {
             0 => None,
             number => Some(Tag::from_number(number)),
         }
+    }
+
+    /// Gives glyphs advances in a horizontal line, in font units, as a client measures them: from then on texts are shaped
+    /// as in a font with these advances. Where one of them is refused (`NoGlyph`, `AdvanceRange`), or other handles share the
+    /// font (`SharedFont`), nothing changes.
+    pub fn set_advances(&mut self, advances: &[(u32, u32)]) -> Result<(), Fault> {
+        let given: Vec<_> = advances.iter().map(|&(glyph, advance)| GlyphAdvance { glyph, advance }).collect();
+        Fault::check(unsafe { kus_font_set_advances(&mut self.handle, given.as_ptr(), given.len()) })
+    }
+
+    /// Sets what an em is on both axes in units of the caller, in which positions are answered from the next text on: an
+    /// advance is rounded by itself, and within a cluster each glyph's point is rounded once. 0 on both axes for font units.
+    pub fn set_scale(&mut self, x_scale: i32, y_scale: i32) -> Result<(), Fault> {
+        Fault::check(unsafe { kus_font_set_scale(&mut self.handle, x_scale, y_scale) })
+    }
+
+    /// The metrics of a line, in font units, if the font was read from a file that has them.
+    pub fn line_metrics(&mut self) -> Option<LineMetrics> {
+        let mut metrics = LineMetrics::default();
+        unsafe { kus_font_get_line_metrics(&mut self.handle, &mut metrics) }.then_some(metrics)
     }
 
     /// The units of the em.

@@ -18,7 +18,7 @@ mod tables;
 
 pub use fault::Fault;
 pub use font::{Font, Glyphs, Table, count_fonts, describe_fault};
-pub use raw::{GlyphExtents, GlyphInfo, GlyphPosition, Slice};
+pub use raw::{GlyphExtents, GlyphInfo, GlyphPosition, LineMetrics, Slice};
 pub use settings::{Character, ClusterLevel, Direction, Feature, Flags, NoFeature, NoTag, Tag, Text, Units};
 pub use tables::Tables;
 

@@ -30,7 +30,25 @@ pub struct GlyphInfo {
     var2: u32,
 }
 
-/// The position of a glyph, in font units.
+/// The advance that a client gives a glyph in a horizontal line, in font units.
+#[repr(C)]
+#[derive(Clone, Copy)]
+pub(crate) struct GlyphAdvance {
+    pub glyph: u32,
+    pub advance: u32,
+}
+
+/// What is above and below the baseline, where the descender is mostly negative, and what is left between two lines, in font
+/// units.
+#[repr(C)]
+#[derive(Clone, Copy, PartialEq, Eq, Debug, Default)]
+pub struct LineMetrics {
+    pub ascender: i32,
+    pub descender: i32,
+    pub line_gap: i32,
+}
+
+/// The position of a glyph, in font units or in the scale that is set.
 #[repr(C)]
 #[derive(Clone, Copy, PartialEq, Eq, Debug, Default)]
 pub struct GlyphPosition {
@@ -140,6 +158,8 @@ extern "C" {
         positions: *mut GlyphPosition,
         positions_room: usize,
     ) -> usize;
+    pub(crate) fn kus_font_set_advances(font: *mut Handle, advances: *const GlyphAdvance, count: usize) -> u32;
+    pub(crate) fn kus_font_set_scale(font: *mut Handle, x_scale: i32, y_scale: i32) -> u32;
     pub(crate) fn kus_get_direction(font: *mut Handle) -> u32;
     pub(crate) fn kus_get_script(font: *mut Handle) -> u32;
     pub(crate) fn kus_get_slices(
@@ -152,6 +172,7 @@ extern "C" {
     ) -> u32;
     pub(crate) fn kus_font_get_upem(font: *mut Handle) -> u32;
     pub(crate) fn kus_font_get_ascender(font: *mut Handle) -> i32;
+    pub(crate) fn kus_font_get_line_metrics(font: *mut Handle, metrics: *mut LineMetrics) -> bool;
     pub(crate) fn kus_font_get_nominal_glyph(font: *mut Handle, unicode: u32, glyph: *mut u32) -> bool;
     pub(crate) fn kus_font_get_glyph_name(font: *mut Handle, glyph: u32, name: *mut u8, name_room: usize) -> usize;
     pub(crate) fn kus_font_get_glyph_extents(font: *mut Handle, glyph: u32, extents: *mut GlyphExtents) -> bool;
