@@ -29,7 +29,8 @@ from shaping.texts import Text
 NAME = "test_library"
 ABOUT = """Tests the library for C: its header as C99, C11 and C++ beside HarfBuzz's numbers and structs; the same texts from
 C, Rust (where cargo is there) and Python as from the program, with their slices, by a font's JSON and by its file; what
-the calls for font files answer, also of damaged ones; each allocation freed, by valgrind and by counts over many calls on
+the calls for font files answer, also of damaged ones; a client's advances and scale beside HarfBuzz's, where a text has
+HarfBuzz's glyphs; each allocation freed, by valgrind and by counts over many calls on
 four threads; calls of every kind with drawn arguments, under valgrind; each allocation of a call refused in turn; the stack that the header asks for;
 and what a word of each script takes by the kept plan, words of four scripts and texts of several scripts in turn,
 beside HarfBuzz's. It takes the proved program and library where they are built of the sources that stand here, else
@@ -100,6 +101,8 @@ def tell_tests(program: Path, tested: Tested, tables: Path, all_scripts: list[Sc
     latin, *_ = all_scripts
     some = [case.text for case in latin.cases if case.settings == SETTINGS[0] and case.text][:4]
     tell("font files", drivers.try_fonts(work, library, tables, latin.font, some[0]))
+    for script in all_scripts:
+        tell(f"settings of {script.name}", drivers.try_settings(work, library, script))
     drawn = drivers.random_calls(work, library, list(small_fonts()), SEED, min(calls, DRAWN))
     tell("drawn calls, under valgrind", drawn)
     tell("memory", drivers.count_calls(work, library, (tables, fonts[latin.font]), calls, some))

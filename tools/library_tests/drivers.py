@@ -12,7 +12,7 @@ from pathlib import Path
 from building.places import Place
 from common.faults import DATA, ToolFault
 from common.files import write_over
-from library_tests.cases import Case, Words
+from library_tests.cases import SETTINGS, Case, Script, Words
 from sources.crates import ROOT
 
 SOURCES = Path(__file__).parent / "c"
@@ -131,6 +131,16 @@ def try_fonts(work: Path, library: Place, tables: Path, font: Path, text: str) -
     words = [tables, font, collection, "3"]
     call([*VALGRIND, program, *words, str(DAMAGED_SLOWLY), text])
     return call([program, *words, str(DAMAGED), text]).strip()
+
+
+def try_settings(work: Path, library: Place, script: Script) -> str:
+    """What a client sets in a font, beside HarfBuzz: its advances, its scale, and the metrics of lines."""
+    program, texts = work / "settings", work / "settings.txt"
+    if not program.exists():
+        flags = [*harfbuzz("--cflags"), SOURCES / "settings.c", library.file, *harfbuzz("--libs")]
+        call(["gcc", "-std=gnu11", "-O2", *WARNINGS, f"-I{INCLUDE}", "-o", program, *flags])
+    write_over(texts, "".join(f"{case.text}\n" for case in script.cases if case.settings == SETTINGS[0] and case.text))
+    return call([program, script.font, texts]).strip()
 
 
 def collection_of(fonts: list[bytes]) -> bytes:

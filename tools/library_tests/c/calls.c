@@ -255,6 +255,75 @@ call_shape (void)
   free_text (&text);
 }
 
+static uint32_t
+some_advance (void *answers, uint32_t glyph)
+{
+  return ((uint32_t *) answers)[glyph] = below (once_in (200) ? 70000 : 3000);
+}
+
+/* Shapes by advances that are asked for, which the glyphs then have that there was room for. */
+static void
+call_measured (void)
+{
+  static uint32_t answers[0x10000];
+  kus_text_t text = drawn_text ();
+  kus_font_t *font = some_font ();
+  size_t room = below (MOST_ROOM), count = 1;
+  kus_glyph_info_t *infos = block (room * sizeof *infos);
+  kus_glyph_position_t *positions = block (room * sizeof *positions);
+  kus_measures_t *measures = calloc (1, sizeof *measures);
+  if (!measures) fail ("memory", "short");
+  measures->advance = some_advance;
+  measures->data = answers;
+  kus_status_t status = kus_shape_measured (font, &text, infos, room, positions, room, &count, measures);
+  note (status);
+  if (status != KUS_OK && count) fail ("glyphs", "of a fault");
+  read_all (infos, less (room, count) * sizeof *infos);
+  read_all (positions, less (room, count) * sizeof *positions);
+  for (size_t i = 0; i < less (room, count); i++)
+    if (kus_font_get_glyph_h_advance (font, infos[i].codepoint) != (int32_t) answers[infos[i].codepoint & 0xFFFF])
+      fail ("an advance", "that wasn't answered");
+  free (measures);
+  free_block (infos, room * sizeof *infos);
+  free_block (positions, room * sizeof *positions);
+  free_text (&text);
+}
+
+/* A list that is taken gives each glyph its last advance; one that is refused leaves them as they were. */
+static void
+call_advances (void)
+{
+  kus_font_t *font = some_font ();
+  size_t count = below (9);
+  kus_glyph_advance_t *given = block (count * sizeof *given);
+  int32_t *own = block (count * sizeof *own);
+  for (size_t i = 0; i < count; i++) {
+    uint32_t glyph = once_in (60) ? (uint32_t) drawn () : below (40);
+    given[i] = (kus_glyph_advance_t){ glyph, once_in (60) ? (uint32_t) drawn () : below (65536) };
+    own[i] = kus_font_get_glyph_h_advance (font, glyph);
+  }
+  kus_status_t status = kus_font_set_advances (font, given, count);
+  note (status);
+  for (size_t i = 0; i < count; i++) {
+    int64_t wanted = own[i];
+    for (size_t j = 0; j < count && status == KUS_OK; j++)
+      if (given[j].glyph == given[i].glyph) wanted = given[j].advance;
+    if (kus_font_get_glyph_h_advance (font, given[i].glyph) != wanted) fail ("an advance", "that wasn't given");
+  }
+  free_block (given, count * sizeof *given);
+  free_block (own, count * sizeof *own);
+}
+
+static void
+call_settings (void)
+{
+  kus_line_metrics_t metrics;
+  if (kus_font_get_line_metrics (some_font (), &metrics)) read_all (&metrics, sizeof metrics);
+  if (once_in (2)) call_advances ();
+  else
+    note (kus_font_set_scale (some_font (), once_in (3) ? 0 : (int32_t) drawn (), once_in (3) ? 0 : (int32_t) drawn ()));
+}
+
 /* A copy of a file, one time in three damaged or cut. */
 static bytes_t
 some_file (void)
@@ -376,7 +445,9 @@ static void
 make_call (void)
 {
   uint32_t at = below (100);
-  if (at < 55) call_shape ();
+  if (at < 50) call_shape ();
+  else if (at < 52) call_measured ();
+  else if (at < 55) call_settings ();
   else if (at < 80) call_questions ();
   else if (at < 90) call_words ();
   else if (at < 94) call_handles ();
