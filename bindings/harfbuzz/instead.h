@@ -198,8 +198,12 @@ bool is_split (const sized_t *sized);
 sized_t *borrow_bare (call_t *call, const units_t *units);
 void set_boxes (sized_t *sized, const call_t *call);
 
-/* Gives glyphs the client's advances; false where one doesn't fit. The font is stale where they are other ones. */
-bool set_advances (sized_t *sized, const kus_glyph_info_t *glyphs, const hb_position_t *advances, size_t count);
+typedef enum { SAME_ADVANCES, OTHER_ADVANCES, NO_ADVANCES } setting_t;
+
+/* Gives the text's glyphs the client's advances: whether the font had them, has others now, or can't have them. */
+setting_t set_advances (const call_t *call, sized_t *sized);
+
+/* Whether a font of what the client answers is to be read again. */
 bool is_stale (const sized_t *sized);
 
 /* The fonts that no thread uses (faces.c has the lock for them). */

@@ -208,10 +208,10 @@ shape_in_units (call_t *call, const units_t *units)
     call->sized = borrow_sized (call->face, call->owner, units, true);
   if (!call->sized)
     return SHAPED;
-  bool fits = set_advances (call->sized, call->infos, call->advances, call->count);
-  if (fits && !is_new && !is_stale (call->sized))
+  setting_t setting = set_advances (call, call->sized);
+  if (setting == SAME_ADVANCES && !is_new)
     return SHAPED;
-  reason_t reason = fits ? shape_text (call) : SMALL_STACK;
+  reason_t reason = setting == NO_ADVANCES ? SMALL_STACK : shape_text (call);
   if (reason == SHAPED)
     return SHAPED;
   leave_units (call);
@@ -264,7 +264,7 @@ shape_bare (call_t *call)
     reason = ask_advances (call);
   if (reason != SHAPED)
     return reason;
-  if (!set_advances (call->sized, call->infos, call->advances, call->count))
+  if (set_advances (call, call->sized) == NO_ADVANCES)
     return NO_TABLES;
   if (wants_boxes)
     set_boxes (call->sized, call);

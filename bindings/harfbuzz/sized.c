@@ -4,6 +4,7 @@
 #include <string.h>
 
 #include "instead.h"
+#include "sfnt.h"
 
 /* How many a face keeps that no thread uses. */
 #define MOST_SIZED 8
@@ -16,10 +17,10 @@
 #define LEAST_SHIFT_OF_BARE -6
 #define MOST_EM 16384 /* head.unitsPerEm */
 
-/* A font that is read, and its file, in which advances are changed. */
+/* A font, and until it is read its file. */
 typedef struct {
   kus_font_t font;
-  bool is_stale; /* the file has other advances */
+  bool is_stale; /* it is to be read */
   uint8_t *file, *metrics;
   size_t length;
 } part_t;
@@ -73,7 +74,7 @@ is_split (const sized_t *sized)
 bool
 is_stale (const sized_t *sized)
 {
-  return sized->parts[0].is_stale || sized->parts[1].is_stale;
+  return sized->parts[0].is_stale;
 }
 
 static reason_t
@@ -96,13 +97,17 @@ open_sized (sized_t *sized, size_t at)
     return &part->font;
   reason_t reason = sized->bare ? read_bare (sized)
                                 : read_font_file (&part->font, part->file, part->length, 0, KUS_FONT_WITHOUT_EXTENTS);
-  part->is_stale = reason != SHAPED;
-  return reason == SHAPED ? &part->font : NULL;
+  if (reason != SHAPED)
+    return NULL;
+  part->is_stale = false;
+  free (part->file);
+  part->file = NULL;
+  return &part->font;
 }
 
 /* ---- making one */
 
-/* Takes a font file of its own, in which advances are changed later. */
+/* Takes a font file of its own, in which advances are changed before it is read. */
 static bool
 take_file (sized_t *sized, hb_blob_t *file)
 {
@@ -264,33 +269,72 @@ set_boxes (sized_t *sized, const call_t *call)
   set_bare_boxes (sized->bare, call->font, &sized->units, call->infos, call->count, &sized->parts[0].is_stale);
 }
 
-/* Whether an advance fits a part. */
-static bool
-set_advance (part_t *part, size_t glyph, int64_t advance)
+static void
+put_advance (part_t *part, kus_glyph_advance_t given)
 {
-  uint8_t *metric = part->metrics + HMTX_METRIC * glyph;
-  if (advance == (metric[0] << 8 | metric[1]))
-    return true;
-  part->is_stale = true;
-  metric[0] = (uint8_t) (advance >> 8);
-  metric[1] = (uint8_t) advance;
-  return 0 <= advance && advance <= UINT16_MAX;
+  put_word (part->metrics + HMTX_METRIC * (size_t) given.glyph, given.advance);
 }
 
-bool
-set_advances (sized_t *sized, const kus_glyph_info_t *glyphs, const hb_position_t *advances, size_t count)
+/* The advances that a part doesn't have yet, in its units; how many, or more than there are glyphs where one doesn't
+ * fit. */
+static size_t
+other_advances (const call_t *call, sized_t *sized, size_t at, kus_glyph_advance_t *others)
+{
+  part_t *part = &sized->parts[at];
+  fraction_t fraction = sized->num_parts == 1 ? WHOLE : at ? HIGH : LOW;
+  size_t count = 0;
+  for (size_t i = 0; i < call->count; i++) {
+    uint32_t glyph = call->infos[i].codepoint;
+    int64_t advance = fraction_of (fraction, finer (&sized->units, call->advances[i]));
+    if (glyph >= sized->num_glyphs)
+      continue;
+    if (advance < 0 || advance > UINT16_MAX)
+      return call->count + 1;
+    if (part->is_stale || kus_font_get_glyph_h_advance (&part->font, glyph) != advance)
+      others[count++] = (kus_glyph_advance_t){ glyph, (uint32_t) advance };
+  }
+  return count;
+}
+
+/* Sets the advances of a part: in its file, or in the font that was read. */
+static setting_t
+set_advances_of (const call_t *call, sized_t *sized, size_t at, kus_glyph_advance_t *others)
+{
+  part_t *part = &sized->parts[at];
+  size_t count = other_advances (call, sized, at, others);
+  if (count > call->count)
+    return NO_ADVANCES;
+  if (!part->is_stale)
+    return kus_font_set_advances (&part->font, others, count) != KUS_OK ? NO_ADVANCES
+           : count                                                      ? OTHER_ADVANCES
+                                                                        : SAME_ADVANCES;
+  for (size_t i = 0; i < count; i++)
+    put_advance (part, others[i]);
+  return OTHER_ADVANCES;
+}
+
+static setting_t
+set_bare (const call_t *call, sized_t *sized)
+{
+  bool *is_changed = &sized->parts[0].is_stale;
+  if (!set_bare_advances (sized->bare, &sized->units, call->infos, call->advances, call->count, is_changed))
+    return NO_ADVANCES;
+  return *is_changed ? OTHER_ADVANCES : SAME_ADVANCES;
+}
+
+setting_t
+set_advances (const call_t *call, sized_t *sized)
 {
   if (sized->bare)
-    return set_bare_advances (sized->bare, &sized->units, glyphs, advances, count, &sized->parts[0].is_stale);
-  for (size_t i = 0; i < count; i++) {
-    int64_t advance = finer (&sized->units, advances[i]);
-    for (size_t at = 0; at < sized->num_parts && glyphs[i].codepoint < sized->num_glyphs; at++) {
-      fraction_t fraction = sized->num_parts == 1 ? WHOLE : at ? HIGH : LOW;
-      if (!set_advance (&sized->parts[at], glyphs[i].codepoint, fraction_of (fraction, advance))) {
-        free_parts (sized);
-        return false;
-      }
-    }
+    return set_bare (call, sized);
+  kus_glyph_advance_t *others = malloc ((call->count + 1) * sizeof *others);
+  setting_t setting = others ? SAME_ADVANCES : NO_ADVANCES;
+  for (size_t at = 0; at < sized->num_parts && setting != NO_ADVANCES; at++) {
+    setting_t own = set_advances_of (call, sized, at, others);
+    setting = own == SAME_ADVANCES ? setting : own;
   }
-  return true;
+  free (others);
+  if (setting == NO_ADVANCES)
+    free_parts (sized);
+  return setting;
 }
