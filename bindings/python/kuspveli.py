@@ -562,6 +562,8 @@ class Font(Held):
 
     _destroy = staticmethod(LIBRARY.kus_font_destroy)
     _reference = staticmethod(LIBRARY.kus_font_reference)
+    _advance: Optional[Callable[[int], int]] = None
+    _asked: set[int]
 
     @overload
     def __init__(
@@ -729,7 +731,21 @@ class Font(Held):
             room = count.value
             infos, positions = (RawInfo * room)(), (RawPosition * room)()
             LIBRARY.kus_get_glyphs(self._handle, infos, room, positions, room)
-        return arrays_of(infos, positions, count.value, character_indices(own, clusters))
+        arrays = arrays_of(infos, positions, count.value, character_indices(own, clusters))
+        return self._shaped(raw, own, clusters) if self._measure(arrays.numbers) else arrays
+
+    def _measure(self, glyphs: Iterable[int]) -> bool:
+        """Sets the advances of glyphs that the caller's function was not asked for yet; whether one is another than the
+        font's."""
+        if self._advance is None:
+            return False
+        new = set(glyphs) - self._asked
+        given = {glyph: number(self._advance(glyph), "advance") for glyph in new}
+        others = {glyph: given[glyph] for glyph in new if self.glyph_h_advance(glyph) != given[glyph]}
+        if others:
+            self.set_advances(others)
+        self._asked |= new
+        return bool(others)
 
     def _runs(self, own: bytes, most: int) -> list[RawSlice]:
         slices, count = (RawSlice * max(most, 1))(), ctypes.c_size_t()
@@ -748,6 +764,12 @@ class Font(Held):
         rows = (RawAdvance * max(len(given), 1))(*given)
         with self._lock:
             check(LIBRARY.kus_font_set_advances(self._handle, rows, len(given)))
+
+    def set_advance_function(self, advance: Optional[Callable[[int], int]]) -> None:
+        """Has a function answer the advance of a glyph, as `set_advances` takes it: it is asked once for each glyph that a
+        text has, and where it answers another advance than the font's the text is shaped again. None ends that."""
+        with self._lock:
+            self._advance, self._asked = advance, set()
 
     def set_scale(self, x_scale: int, y_scale: Optional[int] = None) -> None:
         """Sets what an em is on both axes in units of the caller, in which positions are answered from then on: an advance

@@ -224,6 +224,27 @@ class Answered(unittest.TestCase):
         self.font.set_advances({1: 1})
         self.assertEqual([glyph.x_advance for glyph in self.font.shape("ab")], [1, 600])
 
+    def test_advance_function(self) -> None:
+        """A function is asked once for each glyph, text by text, also again where what it answered was refused."""
+        asked: list[int] = []
+
+        def advance(glyph: int) -> int:
+            asked.append(glyph)
+            return 65536 if len(asked) == 1 else glyph * 100
+
+        self.font.set_advance_function(advance)
+        with self.assertRaises(self.binding.Fault) as caught:
+            self.font.shape("a")
+        self.assertEqual(str(caught.exception), "AdvanceRange")
+        rows = (("ab", [100, 200]), ("bb", [200, 200]), ("fib", [700, 200]))
+        for text, wanted in rows:
+            self.assertEqual([glyph.x_advance for glyph in self.font.shape(text)], wanted)
+        self.assertEqual(list(self.font.shape_arrays("fi").x_advances), [700])
+        self.assertEqual((asked[0], sorted(asked[1:])), (1, [1, 2, 7]))
+        self.font.set_advance_function(None)
+        self.font.set_advances({1: 5})
+        self.assertEqual([glyph.x_advance for glyph in self.font.shape("ab")], [5, 200])
+
     def test_scale(self) -> None:
         """Advances in a scale, as HarfBuzz rounds them, and y offsets by a scale of their own; a copy has the same."""
         rows = ((2001, (1000, 1201)), (-499, (-249, -299)), (1000, (500, 600)), (0, (500, 600)))

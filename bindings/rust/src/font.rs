@@ -4,6 +4,7 @@ use crate::fault::Fault;
 use crate::raw::*;
 use crate::settings::{Direction, Tag, Text, Units};
 use crate::tables::Tables;
+use std::collections::HashSet;
 use std::fmt;
 use std::ptr;
 
@@ -12,6 +13,20 @@ use std::ptr;
 pub struct Glyphs<'a> {
     pub infos: &'a [GlyphInfo],
     pub positions: &'a [GlyphPosition],
+}
+
+/// A client's advances by a function, which answers that of a glyph in font units and is asked once for each glyph. One of
+/// these is for one font, whose handle alone has it.
+#[derive(Debug)]
+pub struct Measures<F> {
+    advance: F,
+    asked: HashSet<u32>,
+}
+
+impl<F: FnMut(u32) -> u32> Measures<F> {
+    pub fn new(advance: F) -> Self {
+        Measures { advance, asked: HashSet::new() }
+    }
 }
 
 /// A layout table of a font.
@@ -136,6 +151,32 @@ impl Font {
         }
         self.count = count;
         Ok(self.glyphs())
+    }
+
+    /// Shapes a text by a client's advances: again after glyphs came that no text before had, and whose advances are others
+    /// than the font's. On a fault, also of `set_advances`, there are no glyphs.
+    pub fn shape_measured<T: Units + ?Sized, F: FnMut(u32) -> u32>(
+        &mut self,
+        text: &Text<'_, T>,
+        measures: &mut Measures<F>,
+    ) -> Result<Glyphs<'_>, Fault> {
+        loop {
+            self.shape(text)?;
+            let count = std::mem::take(&mut self.count);
+            let glyphs = self.infos[..count].iter().map(|info| info.codepoint);
+            let new: HashSet<u32> = glyphs.filter(|glyph| !measures.asked.contains(glyph)).collect();
+            let given: Vec<_> = new.iter().map(|&glyph| (glyph, (measures.advance)(glyph))).collect();
+            let others: Vec<_> =
+                given.into_iter().filter(|&(glyph, advance)| self.glyph_h_advance(glyph) as i64 != advance.into()).collect();
+            if !others.is_empty() {
+                self.set_advances(&others)?;
+            }
+            measures.asked.extend(new);
+            if others.is_empty() {
+                self.count = count;
+                return Ok(self.glyphs());
+            }
+        }
     }
 
     /// Reads the glyphs of the last text again, with room for all of them.

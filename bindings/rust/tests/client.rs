@@ -1,6 +1,6 @@
 //! What a client sets in a font, of a font of four characters whose numbers stand in examples/ligature_font.json.
 
-use kuspveli::{Fault, Font, LineMetrics, Text};
+use kuspveli::{Fault, Font, LineMetrics, Measures, Text};
 
 const FONT: &[u8] = include_bytes!("../../../examples/ligature_font.json");
 
@@ -22,6 +22,26 @@ fn advances_are_the_clients() -> Result<(), Fault> {
     drop(other);
     font.set_advances(&[(2, 1)])?;
     assert_eq!(advances(&mut font, "b")?, [1]);
+    Ok(())
+}
+
+/// A function is asked once for each glyph, also where it was refused before, and text by text.
+#[test]
+fn advances_are_asked_for() -> Result<(), Fault> {
+    let mut font = Font::new(b"{}", FONT)?;
+    let mut asked = Vec::new();
+    let mut measures = Measures::new(|glyph| {
+        asked.push(glyph);
+        100 * glyph
+    });
+    let refused = Font::new(b"{}", FONT)?.shape_measured(&Text::new("a"), &mut Measures::new(|_| 65536)).map(|_| ());
+    assert_eq!(refused, Err(Fault::AdvanceRange));
+    for (text, wanted) in [("ab", vec![100, 200]), ("bb", vec![200, 200]), ("fib", vec![700, 200])] {
+        let glyphs = font.shape_measured(&Text::new(text), &mut measures)?;
+        assert_eq!(glyphs.positions.iter().map(|at| at.x_advance).collect::<Vec<_>>(), wanted);
+    }
+    asked.sort();
+    assert_eq!(asked, [1, 2, 7]);
     Ok(())
 }
 
