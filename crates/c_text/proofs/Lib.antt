@@ -4,7 +4,7 @@ pub mod FontHandles
 pub mod TablesHandles
 mod Fonts
 mod Plans
-mod Slices
+pub mod Slices
 mod Putting
 pub mod Writing
 mod FeatureTexts

@@ -184,7 +184,7 @@ impl Font {
     }
 
     /// Takes the last text's glyphs out, and leaves none.
-    fn take_glyphs(&mut self, alloc: Global) -> GlyphBuffer
+    pub fn take_glyphs(&mut self, alloc: Global) -> GlyphBuffer
         ensures glyphs { result ≡ self.old.glyphs }
         ensures left { self.new ≡ record self.old { glyphs = empty_buffer } }
     {
@@ -192,7 +192,7 @@ impl Font {
     }
 
     /// Puts the last text's glyphs back.
-    fn put_glyphs(&mut self, glyphs: GlyphBuffer)
+    pub fn put_glyphs(&mut self, glyphs: GlyphBuffer)
         ensures { self.new ≡ record self.old { glyphs = glyphs } }
     {
         self.buffer = glyphs.into_buffer();
