@@ -315,11 +315,11 @@ fn main() -> Result<(), Box<dyn Error>> {
     let [svg_file, files @ ..] = words.as_slice() else {
         return Err("paragraph SVG LATIN ARABIC DEVANAGARI".into());
     };
-    let mut tables = Tables::library()?;
+    let tables = Tables::library()?;
     let (mut fonts, mut outlines) = (Vec::new(), Vec::new());
     for file in files {
         let bytes = fs::read(file)?;
-        fonts.push(Font::from_slice_with_tables(&mut tables, &bytes, 0)?);
+        fonts.push(Font::from_slice_with_tables(&tables, &bytes, 0)?);
         outlines.push(Outlines::new(bytes).ok_or_else(|| format!("{file}: no outlines"))?);
     }
     if fonts.len() != 3 {

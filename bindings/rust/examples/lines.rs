@@ -84,9 +84,9 @@ fn slices_line(slices: Result<Vec<Slice>, Fault>) -> String {
 
 fn font(tables: &str, font: &str) -> Result<Font, Box<dyn Error>> {
     let read = fs::read(font)?;
-    let mut first = match tables {
+    let first = match tables {
         "-" => Font::from_slice(&read, 0)?,
-        tables => Font::with_tables(&mut Tables::new(&fs::read(tables)?)?, &read)?,
+        tables => Font::with_tables(&Tables::new(&fs::read(tables)?)?, &read)?,
     };
     Ok(first.another()?)
 }

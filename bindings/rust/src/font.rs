@@ -62,23 +62,20 @@ pub fn describe_fault(bytes: &[u8], index: usize) -> Option<String> {
     if told.is_empty() { None } else { String::from_utf8(told.to_vec()).ok() }
 }
 
-/// A font with its tables, and the glyphs of the last text. It may be moved to another thread; `another` gives a thread
-/// its own.
+/// A font with its tables, and the glyphs of the last text. What it says of itself threads may ask it at once, and wait for
+/// each other; each thread that shapes has its own, by `another`.
 pub struct Font {
-    handle: Handle,
+    handle: Shared,
     infos: Vec<GlyphInfo>,
     positions: Vec<GlyphPosition>,
     /// How many glyphs the last text has; there may be room for more.
     count: usize,
 }
 
-// What is behind a handle may be moved between threads; each call has its handle alone, by `&mut`.
-unsafe impl Send for Font {}
-
 impl Font {
     fn empty() -> Font {
         Font {
-            handle: Handle::EMPTY,
+            handle: Shared::empty(),
             infos: vec![GlyphInfo::default(); 64],
             positions: vec![GlyphPosition::default(); 64],
             count: 0,
@@ -89,17 +86,17 @@ impl Font {
     pub fn new(tables: &[u8], json: &[u8]) -> Result<Font, Fault> {
         let mut font = Font::empty();
         Fault::check(unsafe {
-            kus_font_create(&mut font.handle, tables.as_ptr(), tables.len(), json.as_ptr(), json.len())
+            kus_font_create(font.handle.own(), tables.as_ptr(), tables.len(), json.as_ptr(), json.len())
         })?;
         Ok(font)
     }
 
     /// Reads a font (JSON) over tables, which it shares.
-    pub fn with_tables(tables: &mut Tables, json: &[u8]) -> Result<Font, Fault> {
+    pub fn with_tables(tables: &Tables, json: &[u8]) -> Result<Font, Fault> {
         let mut font = Font::empty();
-        Fault::check(unsafe {
-            kus_font_create_with_tables(&mut font.handle, &mut tables.handle, json.as_ptr(), json.len())
-        })?;
+        Fault::check(tables.handle.with(|tables| unsafe {
+            kus_font_create_with_tables(font.handle.own(), tables, json.as_ptr(), json.len())
+        }))?;
         Ok(font)
     }
 
@@ -108,25 +105,25 @@ impl Font {
     pub fn from_slice(bytes: &[u8], index: usize) -> Result<Font, Fault> {
         let mut font = Font::empty();
         Fault::check(unsafe {
-            kus_font_create_from_bytes_alone(&mut font.handle, bytes.as_ptr(), bytes.len(), index, 0)
+            kus_font_create_from_bytes_alone(font.handle.own(), bytes.as_ptr(), bytes.len(), index, 0)
         })?;
         Ok(font)
     }
 
     /// Reads the font with an index of the bytes of a font file over tables, which it shares.
-    pub fn from_slice_with_tables(tables: &mut Tables, bytes: &[u8], index: usize) -> Result<Font, Fault> {
+    pub fn from_slice_with_tables(tables: &Tables, bytes: &[u8], index: usize) -> Result<Font, Fault> {
         let mut font = Font::empty();
         let (at, length) = (bytes.as_ptr(), bytes.len());
-        Fault::check(unsafe {
-            kus_font_create_from_bytes_over(&mut font.handle, &mut tables.handle, at, length, index, 0)
-        })?;
+        Fault::check(tables.handle.with(|tables| unsafe {
+            kus_font_create_from_bytes_over(font.handle.own(), tables, at, length, index, 0)
+        }))?;
         Ok(font)
     }
 
     /// The same font for another thread, in the same scale. Both share what was read.
-    pub fn another(&mut self) -> Result<Font, Fault> {
+    pub fn another(&self) -> Result<Font, Fault> {
         let mut font = Font::empty();
-        Fault::check(unsafe { kus_font_reference(&mut self.handle, &mut font.handle) })?;
+        Fault::check(self.handle.with(|shared| unsafe { kus_font_reference(shared, font.handle.own()) }))?;
         Ok(font)
     }
 
@@ -137,7 +134,7 @@ impl Font {
         let room = self.infos.len();
         Fault::check(unsafe {
             kus_shape(
-                &mut self.handle,
+                self.handle.own(),
                 &text.raw(),
                 self.infos.as_mut_ptr(),
                 room,
@@ -185,7 +182,7 @@ impl Font {
         self.positions.resize(count, GlyphPosition::default());
         unsafe {
             kus_get_glyphs(
-                &mut self.handle,
+                self.handle.own(),
                 self.infos.as_mut_ptr(),
                 count,
                 self.positions.as_mut_ptr(),
@@ -194,7 +191,7 @@ impl Font {
         };
     }
 
-    /// The glyphs of the last text.
+    /// The glyphs of the last text, beside which the font may be asked.
     pub fn glyphs(&self) -> Glyphs<'_> {
         Glyphs {
             infos: &self.infos[..self.count],
@@ -204,29 +201,23 @@ impl Font {
 
     /// The slices of the last text, one of a `str`, which is passed again: each run of glyphs of one cluster, in the order of the
     /// glyphs, with its bytes. The text without characters has none.
-    pub fn slices(&mut self, text: &str) -> Result<Vec<Slice>, Fault> {
+    pub fn slices(&self, text: &str) -> Result<Vec<Slice>, Fault> {
         if text.is_empty() && self.count == 0 {
             return Ok(Vec::new());
         }
         let mut slices = vec![Slice::default(); self.count];
         let mut count = 0;
-        Fault::check(unsafe {
-            kus_get_slices(
-                &mut self.handle,
-                text.as_ptr(),
-                text.len(),
-                slices.as_mut_ptr(),
-                slices.len(),
-                &mut count,
-            )
-        })?;
+        let room = slices.len();
+        Fault::check(self.handle.with(|font| unsafe {
+            kus_get_slices(font, text.as_ptr(), text.len(), slices.as_mut_ptr(), room, &mut count)
+        }))?;
         slices.truncate(count);
         Ok(slices)
     }
 
     /// The direction by which the last text was shaped, `Guess` where there was none.
-    pub fn direction(&mut self) -> Direction {
-        match unsafe { kus_get_direction(&mut self.handle) } {
+    pub fn direction(&self) -> Direction {
+        match self.handle.with(|font| unsafe { kus_get_direction(font) }) {
             4 => Direction::LeftToRight,
             5 => Direction::RightToLeft,
             6 => Direction::TopToBottom,
@@ -236,8 +227,8 @@ impl Font {
     }
 
     /// The script by which the last text was shaped, if there was one.
-    pub fn script(&mut self) -> Option<Tag> {
-        match unsafe { kus_get_script(&mut self.handle) } {
+    pub fn script(&self) -> Option<Tag> {
+        match self.handle.with(|font| unsafe { kus_get_script(font) }) {
             0 => None,
             number => Some(Tag::from_number(number)),
         }
@@ -248,84 +239,85 @@ impl Font {
     /// font (`SharedFont`), nothing changes.
     pub fn set_advances(&mut self, advances: &[(u32, u32)]) -> Result<(), Fault> {
         let given: Vec<_> = advances.iter().map(|&(glyph, advance)| GlyphAdvance { glyph, advance }).collect();
-        Fault::check(unsafe { kus_font_set_advances(&mut self.handle, given.as_ptr(), given.len()) })
+        Fault::check(unsafe { kus_font_set_advances(self.handle.own(), given.as_ptr(), given.len()) })
     }
 
     /// Sets what an em is on both axes in units of the caller, in which positions are answered from the next text on: an
     /// advance is rounded by itself, and within a cluster each glyph's point is rounded once. 0 on both axes for font units.
     pub fn set_scale(&mut self, x_scale: i32, y_scale: i32) -> Result<(), Fault> {
-        Fault::check(unsafe { kus_font_set_scale(&mut self.handle, x_scale, y_scale) })
+        Fault::check(unsafe { kus_font_set_scale(self.handle.own(), x_scale, y_scale) })
     }
 
     /// The metrics of a line, in font units, if the font was read from a file that has them.
-    pub fn line_metrics(&mut self) -> Option<LineMetrics> {
+    pub fn line_metrics(&self) -> Option<LineMetrics> {
         let mut metrics = LineMetrics::default();
-        unsafe { kus_font_get_line_metrics(&mut self.handle, &mut metrics) }.then_some(metrics)
+        self.handle.with(|font| unsafe { kus_font_get_line_metrics(font, &mut metrics) }).then_some(metrics)
     }
 
     /// The units of the em.
-    pub fn upem(&mut self) -> u32 {
-        unsafe { kus_font_get_upem(&mut self.handle) }
+    pub fn upem(&self) -> u32 {
+        self.handle.with(|font| unsafe { kus_font_get_upem(font) })
     }
 
     /// The height of the ascender above the baseline, in font units; 0 where the font gives none.
-    pub fn ascender(&mut self) -> i32 {
-        unsafe { kus_font_get_ascender(&mut self.handle) }
+    pub fn ascender(&self) -> i32 {
+        self.handle.with(|font| unsafe { kus_font_get_ascender(font) })
     }
 
     /// The glyph that the font has for a character, if it has one.
-    pub fn nominal_glyph(&mut self, character: char) -> Option<u32> {
+    pub fn nominal_glyph(&self, character: char) -> Option<u32> {
         let mut glyph = 0;
-        unsafe { kus_font_get_nominal_glyph(&mut self.handle, character as u32, &mut glyph) }.then_some(glyph)
+        self.handle.with(|font| unsafe { kus_font_get_nominal_glyph(font, character as u32, &mut glyph) }).then_some(glyph)
     }
 
     /// The name of a glyph, if the font gives one. What a font names a glyph may hold any character.
-    pub fn glyph_name(&mut self, glyph: u32) -> Option<String> {
-        let mut name: Vec<u8> = Vec::new();
-        let room = unsafe { kus_font_get_glyph_name(&mut self.handle, glyph, ptr::NonNull::dangling().as_ptr(), 0) };
-        name.resize(room, 0);
-        unsafe { kus_font_get_glyph_name(&mut self.handle, glyph, name.as_mut_ptr(), room) };
+    pub fn glyph_name(&self, glyph: u32) -> Option<String> {
+        let nowhere = ptr::NonNull::dangling().as_ptr();
+        let room = self.handle.with(|font| unsafe { kus_font_get_glyph_name(font, glyph, nowhere, 0) });
+        let mut name = vec![0; room];
+        self.handle.with(|font| unsafe { kus_font_get_glyph_name(font, glyph, name.as_mut_ptr(), room) });
         if room == 0 { None } else { String::from_utf8(name).ok() }
     }
 
     /// The box of a glyph's ink, if the font gives one.
-    pub fn glyph_extents(&mut self, glyph: u32) -> Option<GlyphExtents> {
+    pub fn glyph_extents(&self, glyph: u32) -> Option<GlyphExtents> {
         let mut extents = GlyphExtents::default();
-        unsafe { kus_font_get_glyph_extents(&mut self.handle, glyph, &mut extents) }.then_some(extents)
+        self.handle.with(|font| unsafe { kus_font_get_glyph_extents(font, glyph, &mut extents) }).then_some(extents)
     }
 
     /// The advance of a glyph in a horizontal line, in font units.
-    pub fn glyph_h_advance(&mut self, glyph: u32) -> i32 {
-        unsafe { kus_font_get_glyph_h_advance(&mut self.handle, glyph) }
+    pub fn glyph_h_advance(&self, glyph: u32) -> i32 {
+        self.handle.with(|font| unsafe { kus_font_get_glyph_h_advance(font, glyph) })
     }
 
     /// The advance of a glyph in a vertical line, in font units, at most 0.
-    pub fn glyph_v_advance(&mut self, glyph: u32) -> i32 {
-        unsafe { kus_font_get_glyph_v_advance(&mut self.handle, glyph) }
+    pub fn glyph_v_advance(&self, glyph: u32) -> i32 {
+        self.handle.with(|font| unsafe { kus_font_get_glyph_v_advance(font, glyph) })
     }
 
     /// The tags of the features of a table, in the order of their indices; a tag may come more than once.
-    pub fn feature_tags(&mut self, table: Table) -> Vec<Tag> {
+    pub fn feature_tags(&self, table: Table) -> Vec<Tag> {
         self.tags(kus_font_get_feature_tags, table)
     }
 
     /// The tags of the scripts of a table.
-    pub fn script_tags(&mut self, table: Table) -> Vec<Tag> {
+    pub fn script_tags(&self, table: Table) -> Vec<Tag> {
         self.tags(kus_font_get_script_tags, table)
     }
 
-    fn tags(&mut self, call: TagsCall, table: Table) -> Vec<Tag> {
+    fn tags(&self, call: TagsCall, table: Table) -> Vec<Tag> {
         let table = table.tag().number();
-        let room = unsafe { call(&mut self.handle, table, ptr::NonNull::dangling().as_ptr(), 0) };
+        let nowhere = ptr::NonNull::dangling().as_ptr();
+        let room = self.handle.with(|font| unsafe { call(font, table, nowhere, 0) });
         let mut tags = vec![0; room];
-        unsafe { call(&mut self.handle, table, tags.as_mut_ptr(), room) };
+        self.handle.with(|font| unsafe { call(font, table, tags.as_mut_ptr(), room) });
         tags.into_iter().map(Tag::from_number).collect()
     }
 }
 
 impl fmt::Debug for Font {
     fn fmt(&self, f: &mut fmt::Formatter<'_>) -> fmt::Result {
-        write!(f, "Font {{ glyphs of the last text: {} }}", self.count)
+        f.debug_struct("Font").field("upem", &self.upem()).field("glyphs", &self.count).finish_non_exhaustive()
     }
 }
 
@@ -334,6 +326,6 @@ type TagsCall = unsafe extern "C" fn(*mut Handle, u32, *mut u32, usize) -> usize
 
 impl Drop for Font {
     fn drop(&mut self) {
-        unsafe { kus_font_destroy(&mut self.handle) }
+        unsafe { kus_font_destroy(self.handle.own()) }
     }
 }

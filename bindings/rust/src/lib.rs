@@ -1,6 +1,6 @@
 //! A safe wrapper of libkuspveli, a text shaper that is proved right. What the header asks of a caller is kept by the
-//! types here: slices are never null and live during the call, a call has its handle alone (`&mut self`), and what it
-//! writes is borrowed by no one else.
+//! types here: slices are never null and live during the call, a call has its handle alone (by `&mut self`, or by a lock),
+//! and what it writes is borrowed by no one else.
 //!
 //! ```no_run
 //! use kuspveli::{Font, Text};

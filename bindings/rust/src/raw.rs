@@ -3,6 +3,7 @@
 use crate::settings::Feature;
 use std::ffi::c_void;
 use std::ptr;
+use std::sync::{Mutex, PoisonError};
 
 /// `kus_font_t` and `kus_tables_t`.
 #[repr(C)]
@@ -12,10 +13,32 @@ pub(crate) struct Handle {
 }
 
 impl Handle {
-    pub(crate) const EMPTY: Handle = Handle {
+    const EMPTY: Handle = Handle {
         at: ptr::null_mut(),
         live: false,
     };
+}
+
+// What is behind a handle may be moved between threads (include/kuspveli.h).
+unsafe impl Send for Handle {}
+
+/// A handle that threads may share: each call has it alone.
+pub(crate) struct Shared(Mutex<Handle>);
+
+impl Shared {
+    pub(crate) const fn empty() -> Shared {
+        Shared(Mutex::new(Handle::EMPTY))
+    }
+
+    /// The handle, where nothing else can have it: no lock is taken.
+    pub(crate) fn own(&mut self) -> &mut Handle {
+        self.0.get_mut().unwrap_or_else(PoisonError::into_inner)
+    }
+
+    /// What a call answers that has the handle meanwhile. No call of the library panics, so a handle is whole after one.
+    pub(crate) fn with<T>(&self, call: impl FnOnce(&mut Handle) -> T) -> T {
+        call(&mut self.0.lock().unwrap_or_else(PoisonError::into_inner))
+    }
 }
 
 /// A glyph: `codepoint` is its number, `mask` has its glyph flags, `cluster` is that of its text's units (of a `str` the

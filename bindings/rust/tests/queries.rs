@@ -4,10 +4,10 @@ use kuspveli::{count_fonts, describe_fault, Fault, Font, Tables, Text};
 
 #[test]
 fn fonts_answer_from_their_json() -> Result<(), Fault> {
-    let mut font = Font::new(b"{}", include_bytes!("../../../examples/ligature_font.json"))?;
+    let font = Font::new(b"{}", include_bytes!("../../../examples/ligature_font.json"))?;
     assert_eq!((font.upem(), font.ascender()), (1000, 800));
     assert_eq!((font.nominal_glyph('b'), font.nominal_glyph('c')), (Some(2), None));
-    let mut silent = Font::new(b"{}", b"{\"ascender\":-8}")?;
+    let silent = Font::new(b"{}", b"{\"ascender\":-8}")?;
     assert_eq!((silent.upem(), silent.ascender()), (0, -8));
     Ok(())
 }
@@ -16,8 +16,8 @@ fn fonts_answer_from_their_json() -> Result<(), Fault> {
 #[test]
 fn fonts_are_read_from_files() -> Result<(), Fault> {
     let file = include_bytes!("../../../crates/paragraph_example/data/font.ttf");
-    let mut tables = Tables::library()?;
-    for mut font in [Font::from_slice(file, 0)?, Font::from_slice_with_tables(&mut tables, file, 0)?] {
+    let tables = Tables::library()?;
+    for mut font in [Font::from_slice(file, 0)?, Font::from_slice_with_tables(&tables, file, 0)?] {
         assert_eq!((font.upem(), font.ascender(), font.nominal_glyph('b')), (1000, 800, Some(2)));
         let glyphs = font.shape(&Text::new("fib"))?;
         let pairs = glyphs.infos.iter().zip(glyphs.positions);

@@ -46,7 +46,7 @@ fn features_count_units() -> Result<(), Fault> {
 
 #[test]
 fn glyphs_have_advances() -> Result<(), Fault> {
-    let mut font = Font::new(b"{}", FONT)?;
+    let font = Font::new(b"{}", FONT)?;
     let widths = [1, 2, 0x1_0001].map(|glyph| font.glyph_h_advance(glyph));
     assert_eq!((widths, font.glyph_v_advance(1), font.glyph_v_advance(0x1_0001)), ([500, 0, 0], -1000, 0));
     Ok(())
