@@ -8,11 +8,39 @@ use std::collections::HashSet;
 use std::fmt;
 use std::ptr;
 
-/// The glyphs of a text, each with its position, in the order in which they are drawn.
-#[derive(Clone, Copy, Debug)]
+/// The glyphs of a text, each with its position, in the order in which they are drawn. They are the font's, until it shapes
+/// the next text; `into_owned` keeps them.
+#[derive(Clone, Copy, PartialEq, Eq, Debug, Default)]
 pub struct Glyphs<'a> {
     pub infos: &'a [GlyphInfo],
     pub positions: &'a [GlyphPosition],
+}
+
+/// The glyphs of a text, on their own: they outlive what the font shapes next, and the font.
+#[derive(Clone, PartialEq, Eq, Debug, Default)]
+pub struct OwnedGlyphs {
+    pub infos: Vec<GlyphInfo>,
+    pub positions: Vec<GlyphPosition>,
+}
+
+impl Glyphs<'_> {
+    /// A copy that is on its own.
+    pub fn into_owned(self) -> OwnedGlyphs {
+        OwnedGlyphs {
+            infos: self.infos.to_vec(),
+            positions: self.positions.to_vec(),
+        }
+    }
+}
+
+impl OwnedGlyphs {
+    /// The same as those of a font are passed.
+    pub fn as_glyphs(&self) -> Glyphs<'_> {
+        Glyphs {
+            infos: &self.infos,
+            positions: &self.positions,
+        }
+    }
 }
 
 /// A client's advances by a function, which answers that of a glyph in font units and is asked once for each glyph. One of

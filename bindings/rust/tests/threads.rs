@@ -1,7 +1,7 @@
-//! A font and tables that threads share. Of crates/paragraph_example/data/font.ttf hb-shape
+//! A font and tables that threads share, and glyphs that outlive them. Of crates/paragraph_example/data/font.ttf hb-shape
 //! prints 7=0+520|2=2+600 for "fib" and 2=0+600 for "b".
 
-use kuspveli::{Fault, Font, Glyphs, Tables, Text};
+use kuspveli::{Fault, Font, Glyphs, OwnedGlyphs, Tables, Text};
 use std::thread;
 
 const FILE: &[u8] = include_bytes!("../../../crates/paragraph_example/data/font.ttf");
@@ -15,9 +15,10 @@ fn rows(glyphs: Glyphs<'_>) -> Vec<(u32, u32, i32)> {
 fn is_for_threads<T: Send + Sync>() {}
 
 #[test]
-fn fonts_and_tables_are_for_threads() {
+fn fonts_tables_and_glyphs_are_for_threads() {
     is_for_threads::<Font>();
     is_for_threads::<Tables>();
+    is_for_threads::<OwnedGlyphs>();
 }
 
 /// Each thread asks the shared font, takes its own of it and of the shared tables, and shapes in them.
@@ -43,13 +44,18 @@ fn threads_share_a_font() -> Result<(), Fault> {
     })
 }
 
-/// The font is asked beside glyphs that are borrowed from it.
+/// The font is asked beside glyphs that are borrowed from it, and its next text leaves those that are owned.
 #[test]
-fn fonts_are_asked_beside_their_glyphs() -> Result<(), Fault> {
+fn glyphs_are_kept() -> Result<(), Fault> {
     let mut font = Font::from_slice(FILE, 0)?;
     font.shape(&Text::new("fib"))?;
     let glyphs = font.glyphs();
     assert_eq!((glyphs.infos.len(), font.upem(), font.slices("fib")?.len()), (2, 1000, 2));
+    let kept = glyphs.into_owned();
+    assert_eq!(rows(font.shape(&Text::new("b"))?), [(2, 0, 600)]);
+    drop(font);
+    assert_eq!(rows(kept.as_glyphs()), [(7, 0, 520), (2, 2, 600)]);
+    assert_eq!(kept.clone(), kept);
     Ok(())
 }
 
