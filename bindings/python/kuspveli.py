@@ -9,7 +9,7 @@ import threading
 import weakref
 from array import array
 from itertools import accumulate
-from typing import Any, Callable, Iterable, Mapping, NamedTuple, Optional, Union, overload
+from typing import Any, Callable, Iterable, Mapping, NamedTuple, Optional, TypeVar, Union, overload
 
 import kuspveli_library
 
@@ -37,6 +37,8 @@ TAG = re.compile(r"[\x20-\x7e]{1,4}")
 FEATURE = re.compile(r"(?P<sign>[+-]?)(?P<tag>[^\s\[\]=+,-]+)(?P<range>\[(\d*)(:?)(\d*)\])?(?:=(?P<value>\d+))?")
 Bytes = Union[bytes, bytearray, memoryview]
 Text = Union[str, Bytes]
+# Tables or a font: another handle is of the same class.
+AnyHeld = TypeVar("AnyHeld", bound="Held")
 
 
 # ---- the library
@@ -487,8 +489,9 @@ def character_indices(text: bytes, clusters: str = "bytes") -> Optional["array[i
 class Held:
     """A handle of the library, which one thread at a time uses; a copy is another handle of the same data."""
 
-    _destroy: Callable[..., None]
-    _reference: Callable[..., int]
+    # Calls of the library.
+    _destroy: Any
+    _reference: Any
 
     def __init__(self) -> None:
         # Where it is called again, the handle stays, and a call that reads into it frees what it had.
@@ -497,7 +500,7 @@ class Held:
             self._lock = threading.RLock()
             HANDLES.add(self)
 
-    def another(self) -> "Held":
+    def another(self: AnyHeld) -> AnyHeld:
         """The same for another thread, which shares what was read."""
         need_stack(SHAPING)
         other = type(self).__new__(type(self))
@@ -511,16 +514,16 @@ class Held:
         with self._lock:
             self._destroy(self._handle)
 
-    def __enter__(self) -> Any:
+    def __enter__(self: AnyHeld) -> AnyHeld:
         return self
 
     def __exit__(self, *_: object) -> None:
         self.close()
 
-    def __copy__(self) -> "Held":
+    def __copy__(self: AnyHeld) -> AnyHeld:
         return self.another()
 
-    def __deepcopy__(self, _: object) -> "Held":
+    def __deepcopy__(self: AnyHeld, _: object) -> AnyHeld:
         return self.another()
 
     def __reduce_ex__(self, _: object) -> Any:
@@ -573,18 +576,29 @@ class Font(Held):
     @overload
     def __init__(self, tables: Union[Tables, Text], json: Text, /) -> None: ...
 
-    def __init__(self, first: Any, json: Optional[Text] = None, /, **settings: Any) -> None:
+    def __init__(
+        self,
+        first: Any,
+        json: Optional[Text] = None,
+        /,
+        *,
+        index: int = 0,
+        tables: Optional[Tables] = None,
+        extents: bool = True,
+        names: bool = True,
+    ) -> None:
         """The font with an index of the bytes of a font file (TrueType, OpenType, a collection), over the tables, or
         over those that are inside the library; without the boxes of glyphs, or their names, where these are not asked
         for. Nothing of the bytes is kept. With a second argument the arguments are tables and a font (JSON)."""
         super().__init__()
         need_stack(READING)
         if json is None:
-            self._read_file(file_bytes(first), **settings)
-        elif settings:
-            raise TypeError(f"{next(iter(settings))}: a font of JSON has no such setting")
-        else:
-            self._read_json(first, utf8(json, "font"))
+            self._read_file(file_bytes(first), index, tables, extents, names)
+            return
+        given = {"index": index != 0, "tables": tables is not None, "extents": not extents, "names": not names}
+        for name in (name for name, is_given in given.items() if is_given):
+            raise TypeError(f"{name}: a font of JSON has no such setting")
+        self._read_json(first, utf8(json, "font"))
 
     @classmethod
     def open(
@@ -604,9 +618,7 @@ class Font(Held):
         except Fault as fault:
             raise Fault(fault.status, f"{path}: {fault}") from None
 
-    def _read_file(
-        self, read: bytes, *, index: int = 0, tables: Optional[Tables] = None, extents: bool = True, names: bool = True
-    ) -> None:
+    def _read_file(self, read: bytes, index: int, tables: Optional[Tables], extents: bool, names: bool) -> None:
         given = (read, len(read), number(index, "index"), (not extents) * WITHOUT_EXTENTS | (not names) * WITHOUT_NAMES)
         if tables is None:
             with self._lock:
@@ -761,7 +773,7 @@ class Font(Held):
         font has no advance of, AdvanceRange for one above 65535, or SharedFont where other handles share the font, nothing
         changes."""
         given = [(number(glyph, "glyph"), number(advance, "advance")) for glyph, advance in advances.items()]
-        rows = (RawAdvance * max(len(given), 1))(*given)
+        rows = (RawAdvance * max(len(given), 1))(*(RawAdvance(*row) for row in given))
         with self._lock:
             check(LIBRARY.kus_font_set_advances(self._handle, rows, len(given)))
 
@@ -784,12 +796,12 @@ class Font(Held):
     def upem(self) -> int:
         """The units of the em."""
         with self._lock:
-            return LIBRARY.kus_font_get_upem(self._handle)
+            return int(LIBRARY.kus_font_get_upem(self._handle))
 
     def ascender(self) -> int:
         """The height of the ascender above the baseline, in font units; 0 where the font gives none."""
         with self._lock:
-            return LIBRARY.kus_font_get_ascender(self._handle)
+            return int(LIBRARY.kus_font_get_ascender(self._handle))
 
     def line_metrics(self) -> Optional[LineMetrics]:
         """The metrics of a line in font units, if the font was read from a file that has them."""
@@ -824,12 +836,12 @@ class Font(Held):
     def glyph_h_advance(self, glyph: int) -> int:
         """The advance of a glyph in a horizontal line, in font units."""
         with self._lock:
-            return LIBRARY.kus_font_get_glyph_h_advance(self._handle, number(glyph, "glyph"))
+            return int(LIBRARY.kus_font_get_glyph_h_advance(self._handle, number(glyph, "glyph")))
 
     def glyph_v_advance(self, glyph: int) -> int:
         """The advance of a glyph in a vertical line, in font units, at most 0."""
         with self._lock:
-            return LIBRARY.kus_font_get_glyph_v_advance(self._handle, number(glyph, "glyph"))
+            return int(LIBRARY.kus_font_get_glyph_v_advance(self._handle, number(glyph, "glyph")))
 
     def feature_tags(self, table: str) -> list[str]:
         """The tags of the features of a table, "GSUB" or "GPOS", in the order of their indices."""
@@ -889,4 +901,5 @@ def arrays_of(infos: Any, positions: Any, count: int, indices: Optional["array[i
     signed.frombytes(memoryview(positions).cast("B")[: count * ctypes.sizeof(RawPosition)])
     numbers, flags, clusters = unsigned[0::5], unsigned[1::5], unsigned[2::5]
     characters = clusters if indices is None else array("I", (indices[cluster] for cluster in clusters))
-    return Arrays(numbers, clusters, flags, *(signed[k::5] for k in range(4)), characters)
+    x_advances, y_advances, x_offsets, y_offsets = (signed[k::5] for k in range(4))
+    return Arrays(numbers, clusters, flags, x_advances, y_advances, x_offsets, y_offsets, characters)

@@ -2,10 +2,14 @@
 
 import copy
 import importlib.util
+import inspect
 import os
 import pickle
+import re
 import resource
+import shutil
 import signal
+import subprocess
 import sys
 import tempfile
 import threading
@@ -112,6 +116,36 @@ class Checked(unittest.TestCase):
         for settings in ({"features": {"liga": "x"}}, {"script": 3}, {"language": 3}, {"flags": "BOT"}):
             with self.assertRaises(TypeError):
                 self.binding.raw_text("a", **settings)
+
+    def test_named(self) -> None:
+        """Each setting stands by its name where help and editors show it."""
+        file = ("index", "tables", "extents", "names")
+        around = ("features", "direction", "script", "language", "before", "after", "flags", "cluster_level")
+        font = self.binding.Font
+        for call, names in (
+            (font, file), (font.open, file[1:]), (font.shape, (*around, "clusters")), (font.shape_slices, around),
+        ):  # fmt: skip
+            parameters = inspect.signature(call).parameters.values()
+            self.assertEqual(tuple(each.name for each in parameters if each.kind == each.KEYWORD_ONLY), names)
+            self.assertEqual([each.name for each in parameters if each.kind in (each.VAR_KEYWORD, each.VAR_POSITIONAL)], [])
+
+    @unittest.skipUnless(shutil.which("mypy"), "needs mypy")
+    def test_types(self) -> None:
+        """A checker of types takes the module, and knows what each call answers, also of copies and of a font in `with`."""
+        answers = {
+            "font": "kuspveli.Font", "font.another()": "kuspveli.Font", "copy.copy(font)": "kuspveli.Font",
+            "Tables().another()": "kuspveli.Tables", "font.shape('a')[0].x_advance": "builtins.int",
+            "font.upem()": "builtins.int", "font.glyph_name(1)": "Union[builtins.str, None]",
+        }  # fmt: skip
+        with tempfile.TemporaryDirectory() as folder:
+            given = Path(folder) / "own.py"
+            head = "import copy\nfrom kuspveli import Font, Tables\nwith Font.open('a', names=False) as font:\n"
+            given.write_text(head + "".join(f"    reveal_type({each})\n" for each in answers), encoding="utf-8")
+            words = ["mypy", "--strict", "--python-version=3.9", "--cache-dir=/dev/null", given, FOLDER / "kuspveli.py"]
+            environment = {**os.environ, "MYPYPATH": str(FOLDER)}
+            ran = subprocess.run(words, capture_output=True, text=True, check=False, env=environment)
+        self.assertEqual(ran.returncode, 0, ran.stdout)
+        self.assertEqual(re.findall('Revealed type is "(.*)"', ran.stdout), list(answers.values()))
 
     def test_interface(self) -> None:
         """A library with another first number of the version is refused, and one with a lower second number: it lacks calls."""
@@ -327,7 +361,9 @@ class Answered(unittest.TestCase):
             lambda: self.binding.Font("font.ttf"),
             lambda: self.binding.Font(FILE, index="0"),
             lambda: self.binding.Font(FILE, tables=TABLES),
-            lambda: self.binding.Font(TABLES, FONT, index=0),
+            lambda: self.binding.Font(TABLES, FONT, index=1),
+            lambda: self.binding.Font(TABLES, FONT, extents=False),
+            lambda: self.binding.Font(FILE, none=0),
             lambda: self.binding.count_fonts("font.ttf"),
         )
         for call in refused:
