@@ -28,6 +28,21 @@ BUILDS = "tools/build_library proves and builds it"
 # What pip may not reach: no index, and none at the place where it is sought.
 ALONE = {"PIP_NO_INDEX": "1", "PIP_INDEX_URL": "http://127.0.0.1:9/", "PIP_DISABLE_PIP_VERSION_CHECK": "1"}
 
+# What a checker of types has to take, and what not after it, each with a part of what it says.
+TYPED = """
+from kuspveli import Feature, Flags, Font, Glyph
+
+def shaped(path: str) -> list[Glyph]:
+    font = Font.open(path, names=False)
+    return font.shape("office", features=[Feature("liga", 0)], direction="ltr", flags=Flags.BOT)
+
+"""
+WRONG = {
+    'Font.open("a").shape("b", directions="ltr")\n': 'Unexpected keyword argument "directions" for "shape"',
+    "Font(b'', index='0')\n": "No overload variant",
+    'Font.open("a").upem().x\n': '"int" has no attribute "x"',
+}
+
 
 def without_library() -> dict[str, str]:
     """The environment without a library that it names, and without modules."""
@@ -161,7 +176,8 @@ class Pip(unittest.TestCase):
         self.root = Path(folder.name)
         self.clone = self.root / "clone"
         shutil.copytree(PYTHON, self.clone / "bindings" / "python", ignore=shutil.ignore_patterns("__pycache__"))
-        for name in ("VERSION", "LICENSE"):
+        (self.clone / "data").mkdir()
+        for name in ("VERSION", "LICENSE", "data/LICENSE.txt", "data/tables.json"):
             shutil.copy(ROOT / name, self.clone / name)
         subprocess.run(["/usr/bin/python3", "-m", "venv", self.root / "venv"], check=True, capture_output=True)
         self.python = self.root / "venv" / "bin" / "python"
@@ -177,7 +193,7 @@ class Pip(unittest.TestCase):
         return subprocess.run(words, capture_output=True, text=True, check=False, env=self.environment, cwd=self.root)
 
     def test_with_library(self) -> None:
-        """The library that is built comes along, so the clone may go; what pip put there, pip removes."""
+        """The library that is built comes along, with the tables, so the clone may go; what pip put there, pip removes."""
         (self.clone / "out").mkdir()
         shutil.copy(stand_in(self.root), self.clone / "out" / "libkuspveli.so")
         self.install()
@@ -187,9 +203,28 @@ class Pip(unittest.TestCase):
         version, path = ran.stdout.split()
         self.assertEqual((version, ran.stderr), (VERSION, ""))
         self.assertTrue(path.endswith("site-packages/kuspveli.libs/libkuspveli.so"), path)
+        code = "from importlib.resources import files; print((files('kuspveli') / 'tables.json').read_text(), end='')"
+        self.assertEqual(self.run_python(code).stdout, (ROOT / "data" / "tables.json").read_text())
         words = [self.python, "-m", "pip", "uninstall", "--quiet", "-y", "kuspveli"]
         subprocess.run(words, check=True, capture_output=True, env=self.environment)
-        self.assertFalse(Path(path).parent.exists())
+        packages = Path(path).parent.parent
+        self.assertEqual([each.name for each in packages.glob("kuspveli*")], [])
+
+    @unittest.skipUnless(shutil.which("mypy"), "needs mypy")
+    def test_types(self) -> None:
+        """A checker of types finds those of the module, and takes a program that passes each setting by name."""
+        self.install()
+        given = self.root / "own.py"
+        given.write_text(TYPED, encoding="utf-8")
+        ran = self.mypy(given)
+        self.assertEqual((ran.returncode, ran.stdout), (0, "Success: no issues found in 1 source file\n"), ran.stderr)
+        for wrong, told in WRONG.items():
+            given.write_text(TYPED + wrong, encoding="utf-8")
+            self.assertIn(told, self.mypy(given).stdout, wrong)
+
+    def mypy(self, given: Path) -> subprocess.CompletedProcess[str]:
+        words = ["mypy", "--strict", "--cache-dir=/dev/null", f"--python-executable={self.python}", given]
+        return subprocess.run(words, capture_output=True, text=True, check=False, env=self.environment, cwd=self.root)
 
     def test_other_version(self) -> None:
         """A library of another first number, or of an earlier second one, is refused by its file's name; a later one isn't."""
