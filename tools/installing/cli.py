@@ -11,6 +11,7 @@ from common.faults import FILES, ToolFault
 from common.parsing import Words
 from common.plan import Entries
 from common.printing import tell
+from common.version import soname, version
 from installing.layout import COMMANDS, check_prefix, layout
 from installing.placing import SUMS, place_all, remove_all
 from preload.shared_object import NEEDS, OBJECT
@@ -46,6 +47,8 @@ def main(words: list[str]) -> int:
     changed = put_entries(prefix, entries)
     how = "unproved, and its uses say so" if options.unproved else "proved"
     print(f"{len(entries)} files stand below {prefix} ({how}); {changed} of them changed")
+    library = prefix / "lib" / soname(version())
+    print(f"what is linked to {library} finds it after ldconfig, run by root, or by LD_LIBRARY_PATH={library.parent}")
     if not any(name.endswith(OBJECT) for name in entries):
         tell(NAME, f"kuspveli-instead has no {OBJECT}: {NEEDS}")
     return 0

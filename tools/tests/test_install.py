@@ -260,6 +260,7 @@ class Installed(unittest.TestCase):
         words = [] if standing(PROGRAM).is_proved and standing(LIBRARY).is_proved else ["--unproved"]
         with contextlib.redirect_stdout(io.StringIO()) as shown:
             self.assertEqual(cli.main([str(prefix), *words]), 0)
+            self.assertIn(f"what is linked to {prefix}/lib/{soname(VERSION)} finds it after ldconfig", shown.getvalue())
             self.assertEqual(cli.main([str(prefix), "--uninstall"]), 0)
         self.assertEqual("unproved" in shown.getvalue(), bool(words))
         self.assertFalse(prefix.exists())
