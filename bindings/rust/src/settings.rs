@@ -82,7 +82,8 @@ pub struct Feature {
     pub end: u32,
 }
 
-/// What was given is not of the form of a feature: `liga`, `-liga`, `liga=0`, `liga[0:3]=0`.
+/// What was given is not of the form of a feature, `liga`, `-liga`, `liga=0`, `liga[0:3]=0`, or a number in it is past 32
+/// bits, of which HarfBuzz takes the low ones.
 #[derive(Clone, Copy, PartialEq, Eq, Debug)]
 pub struct NoFeature;
 
@@ -152,7 +153,7 @@ fn range_of(text: &str) -> Result<(u32, u32), NoFeature> {
 
 impl fmt::Display for NoFeature {
     fn fmt(&self, f: &mut fmt::Formatter<'_>) -> fmt::Result {
-        f.write_str("not of the form liga, -liga, liga=0 or liga[0:3]=0")
+        f.write_str("not of the form liga, -liga, liga=0 or liga[0:3]=0, with numbers up to 4294967295")
     }
 }
 
