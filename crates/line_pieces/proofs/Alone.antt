@@ -30,7 +30,7 @@ use Rattle.kuspveli.specs.shaping_buffer.buffer_core.Sides.{Sides, all_glyphs, s
 use Rattle.line_pieces.specs.declared.lines.Line.{Line}
 use Rattle.line_pieces.specs.Alone.{IsCutAt, IsFrom, IsUpTo, OwnLinesAreShapedAlone, OwnLinesLookAlike, Setup, ShapedText, shaping_of}
 use Rattle.line_pieces.specs.Laws.{is_flagged_at}
-use Rattle.line_pieces.specs.Lines.{AreGlyphsOf, IsLine, byte_range, is_safe_at, paragraph_of}
+use Rattle.line_pieces.specs.Lines.{AreGlyphsOf, IsLine, byte_range, is_safe_at, paragraph_by}
 use Rattle.line_pieces.specs.Steps.{text_steps}
 use Rattle.line_pieces.proofs.Rests.{IsShownCut, line_range, rest_may, rest_order}
 use Rattle.line_pieces.proofs.Shown.{flags_show_safe_breaks}
@@ -206,8 +206,8 @@ joined_within from to [] joined = All-nil (IsInText to)
 joined_within from to (l ∷ ls) joined = All-cons (IsInText to) l ls (joined.1, joined_rises l.end to ls joined.2) (joined_within l.end to ls joined.2)
 
 pub own_lines : SafeBreaks → TextsKeepNumbers → OwnLinesAreShapedAlone
-own_lines law keeps s d end breaks width whole line ls l r ascii has text =
-    let p = paragraph_of d whole.result end breaks width in
+own_lines law keeps s d end breaks widths whole line ls l r ascii has text =
+    let p = paragraph_by d whole.result end breaks widths in
     let falls = is_backward d in
     let gs = all_glyphs whole.result in
     let same = origin_numbers gs in
@@ -236,8 +236,8 @@ same_view (Ok r) a b x y first second = ap (λ (s : BufferState). s.view) first 
 same_view (Err e) a b x y first second = absurd first
 
 pub own_lines_look : OwnLinesAreShapedAlone → TextsReadAlike → OwnLinesLookAlike
-own_lines_look law alike s d end breaks width whole line other ls l r ascii has text plain like =
-    let is = (law s d end breaks width whole line ls l r ascii has text).0 in
+own_lines_look law alike s d end breaks widths whole line other ls l r ascii has text plain like =
+    let is = (law s d end breaks widths whole line ls l r ascii has text).0 in
     let read = alike s.font s.tables s.tags s.spans s.features line.text other.text plain like in
     let P : Reading → Type 0 = λ ρ. Follows ρ (state_of line.text) (state_of line.result) in
     let same : view_of line.result ≡ view_of other.result = same_view (text_reading (shaping_of s other.text) (state_of other.text)) (state_of line.text) (state_of other.text) (state_of line.result) (state_of other.result) (subst P read line.shaped) other.shaped in

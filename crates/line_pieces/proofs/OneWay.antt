@@ -10,7 +10,7 @@ use Rattle.kuspveli.specs.buffer_glyphs.Lemmas.Numbers.{Has, has_cases, has_here
 use Rattle.kuspveli.specs.buffer_parts.Slices.{AreJoined, text_of_slices}
 use Rattle.line_pieces.specs.declared.lines.Line.{Line}
 use Rattle.line_pieces.specs.Laws.{LinesAreOne, LinesAreText}
-use Rattle.line_pieces.specs.Lines.{IsLine, IsNextEnd, MayEnd, Paragraph, byte_range, width_between}
+use Rattle.line_pieces.specs.Lines.{IsLine, IsNextEnd, MayEnd, Paragraph, byte_range, width_between, width_from}
 
 -- ---- the text
 
@@ -81,7 +81,7 @@ no_longer p l m first second same some within less =
     let after = is.after in
     let wide = first.filled.full n is in
     elim (second.filled.fits n is.may (omega (arith, after, some, same)) found.2) [
-      | inl fits ↦ too_wide (width_between p.steps l.start n) p.width (subst (λ s. width_between p.steps s n ≤ℤ p.width) (sym same) fits) wide
+      | inl fits ↦ too_wide (width_between p.steps l.start n) (width_from p.widths l.start) (subst (λ s. width_between p.steps s n ≤ℤ width_from p.widths s) (sym same) fits) wide
       | inr one ↦ let le = one l.end first.end (omega (arith, some, same)) in omega (arith, le, after)
     ]
 

@@ -17,7 +17,7 @@ use Rattle.line_pieces.specs.declared.cuts.Cut.{Cut}
 use Rattle.line_pieces.specs.declared.filling.Frame.{Frame}
 use Rattle.line_pieces.specs.declared.steps.Step.{Step}
 use Rattle.line_pieces.specs.Cuts.{IsCut, IsMeasured, IsWalked, glyph_range, line_of, own_glyphs, stays}
-use Rattle.line_pieces.specs.Lines.{AreGlyphsOf, HasExactly, is_safe_at, paragraph_of, pen_before, width_between}
+use Rattle.line_pieces.specs.Lines.{AreGlyphsOf, HasExactly, is_safe_at, paragraph_by, pen_before, width_between}
 use Rattle.line_pieces.specs.Steps.{text_index, text_steps}
 use Rattle.line_pieces.proofs.TextOrder.{text_count, text_step}
 use Rattle.line_pieces.proofs.Walks.{pen_there}
@@ -125,11 +125,11 @@ module _ (d : Direction) (r : Sides) (same : length r.positions ≡ length (all_
 
   -- the glyphs of a line between two cuts
   pub line_glyphs : (f : Frame) (breaks : List ℕ) (start end : Cut) → f.direction ≡ d → f.count ≡ length (all_glyphs r) → IsCut ss f.end start → IsCut ss f.end end → start.byte ≤ end.byte
-      → AreGlyphsOf (paragraph_of d r f.end breaks f.width) (line_of f start end) (own_glyphs f start end)
+      → AreGlyphsOf (paragraph_by d r f.end breaks f.widths) (line_of f start end) (own_glyphs f start end)
   line_glyphs f breaks start end along all first second le = by_flags start.is_safe end.is_safe first.safe second.safe
     where
       by_flags : (t u : Bool) → t ≡ is_safe_at ss f.end start.byte → u ≡ is_safe_at ss f.end end.byte
-          → AreGlyphsOf (paragraph_of d r f.end breaks f.width) (line_of f start end) (if t && u then Some (glyph_range f start.glyphs end.glyphs) else None)
+          → AreGlyphsOf (paragraph_by d r f.end breaks f.widths) (line_of f start end) (if t && u then Some (glyph_range f start.glyphs end.glyphs) else None)
       by_flags false u one two = ap (λ b. b && is_safe_at ss f.end end.byte) (sym one)
       by_flags true false one two = ap (λ b. b && is_safe_at ss f.end end.byte) (sym one) ∙ sym two
       by_flags true true one two = (ap (λ b. b && is_safe_at ss f.end end.byte) (sym one) ∙ sym two, range_exact f start end along all first second le)

@@ -1,5 +1,5 @@
 -- Lines of a paragraph, and what shaping the text of one of them alone gives.
-use Rattle.std.specs.Prelude.{ℕ, ℤ, ◌≡◌, ◌<◌, ◌⊎◌, true, IsTrue, List, Some, Contains, slice_range}
+use Rattle.std.specs.Prelude.{ℕ, ◌≡◌, ◌<◌, ◌⊎◌, true, IsTrue, List, Some, Contains, slice_range}
 use Rattle.kuspveli.specs.buffer_common.declared.direction.Direction.{Direction}
 use Rattle.kuspveli.specs.buffer_common.declared.tag.Tag.{Tag}
 use Rattle.kuspveli.specs.buffer_glyphs.Items.{clusters}
@@ -24,7 +24,8 @@ use Rattle.kuspveli.specs.shape_pipeline.Shaping.{Shaping}
 use Rattle.kuspveli.specs.shaping_buffer.buffer_core.Sides.{Sides, all_glyphs, items_of}
 use Rattle.line_pieces.specs.declared.lines.GlyphRange.{GlyphRange}
 use Rattle.line_pieces.specs.declared.lines.Line.{Line}
-use Rattle.line_pieces.specs.Lines.{AreLines, IsInLine, paragraph_of}
+use Rattle.line_pieces.specs.declared.lines.Widths.{Widths}
+use Rattle.line_pieces.specs.Lines.{AreLines, IsInLine, paragraph_by}
 
 -- what texts are shaped with: a font, the tables of characters, the tags of languages, the scan for syllables, and
 -- features
@@ -96,23 +97,24 @@ pub record HasGlyphsOf (whole : Sides) (r : GlyphRange) (line : Sides) : Type 0 
 abbrev pub HasClustersOf : (whole : Sides) (r : GlyphRange) (line : Sides) → Type 0
 HasClustersOf whole r line = slice_range (clusters (all_glyphs whole)) r.start r.end ≡ clusters (all_glyphs line)
 
--- the lines of a paragraph along a direction, as `cut_lines` gives them, have a line with the paragraph's glyphs in a range
-pub record HasOwnGlyphs (d : Direction) (end : ℕ) (breaks : List ℕ) (width : ℤ) (whole : Sides) (ls : List Line) (l : Line) (r : GlyphRange) : Type 0 where
+-- the lines of a paragraph along a direction, as `cut_lines` and `cut_unit_lines` give them, have a line with the paragraph's
+-- glyphs in a range
+pub record HasOwnGlyphs (d : Direction) (end : ℕ) (breaks : List ℕ) (widths : Widths) (whole : Sides) (ls : List Line) (l : Line) (r : GlyphRange) : Type 0 where
   pub line : IsInLine d whole
-  pub lines : AreLines (paragraph_of d whole end breaks width) ls
+  pub lines : AreLines (paragraph_by d whole end breaks widths) ls
   pub among : Contains ls l
   pub own : l.glyphs ≡ Some r
 
 -- law: the glyphs that a line has of its paragraph are those that shaping the line's text alone gives, with the same
 -- clusters
 abbrev pub OwnLinesAreShapedAlone : Type 0
-OwnLinesAreShapedAlone = (s : Setup) (d : Direction) (end : ℕ) (breaks : List ℕ) (width : ℤ) (whole line : ShapedText s) (ls : List Line) (l : Line) (r : GlyphRange)
-    → AsciiHasNoMarks → HasOwnGlyphs d end breaks width whole.result ls l r → IsTextOfLine s end l whole line
+OwnLinesAreShapedAlone = (s : Setup) (d : Direction) (end : ℕ) (breaks : List ℕ) (widths : Widths) (whole line : ShapedText s) (ls : List Line) (l : Line) (r : GlyphRange)
+    → AsciiHasNoMarks → HasOwnGlyphs d end breaks widths whole.result ls l r → IsTextOfLine s end l whole line
     → HasGlyphsOf whole.result r line.result × HasClustersOf whole.result r line.result
 
 -- law: the glyphs that a line has of its paragraph are, at the same positions, those that the line's text has with other
 -- clusters, at another level, or with other requests for glyph flags, where no feature is requested for a range of the text
 abbrev pub OwnLinesLookAlike : Type 0
-OwnLinesLookAlike = (s : Setup) (d : Direction) (end : ℕ) (breaks : List ℕ) (width : ℤ) (whole line other : ShapedText s) (ls : List Line) (l : Line) (r : GlyphRange)
-    → AsciiHasNoMarks → HasOwnGlyphs d end breaks width whole.result ls l r → IsTextOfLine s end l whole line
+OwnLinesLookAlike = (s : Setup) (d : Direction) (end : ℕ) (breaks : List ℕ) (widths : Widths) (whole line other : ShapedText s) (ls : List Line) (l : Line) (r : GlyphRange)
+    → AsciiHasNoMarks → HasOwnGlyphs d end breaks widths whole.result ls l r → IsTextOfLine s end l whole line
     → have_no_ranges s.features ≡ true → AreAlike line.text other.text → HasGlyphsOf whole.result r other.result

@@ -11,8 +11,9 @@ use Rattle.line_pieces.specs.declared.lines.GlyphRange.{GlyphRange}
 use Rattle.line_pieces.specs.declared.lines.Line.{Line}
 use Rattle.line_pieces.specs.declared.lines.LineFault.{LineFault}
 use Rattle.line_pieces.specs.declared.lines.LineFault.TheVariants.{OutOfMemory, TooManyGlyphs, ClustersOutOfOrder, InvalidBreaks}
+use Rattle.line_pieces.specs.declared.lines.Widths.{Widths}
 use Rattle.line_pieces.specs.declared.steps.Step.{Step}
-use Rattle.line_pieces.specs.Breaks.{AreBreaks}
+use Rattle.line_pieces.specs.Breaks.{AreBreaks, AreBreaksTo}
 use Rattle.line_pieces.specs.Steps.{text_steps}
 
 -- a paragraph that was shaped, and how it is to be cut into lines
@@ -21,16 +22,28 @@ pub record Paragraph : Type 0 where
   pub clusters : List ℕ
   -- its glyphs in the order of the text
   pub steps : List Step
-  -- how many bytes its text has
+  -- how many bytes its text has, or other units that its clusters are of
   pub end : ℕ
   -- the bytes at which a line may end, beside the end of the text
   pub breaks : List ℕ
-  -- the width that lines are to fit
-  pub width : ℤ
+  -- the widths that lines are to fit
+  pub widths : Widths
 
--- a result along a direction as a paragraph: its text ends at a byte, and its lines may end at breaks and are to fit a width
+-- a result along a direction as a paragraph: its text ends at a byte, and its lines may end at breaks and are to fit widths
+abbrev pub paragraph_by : Direction → Sides → ℕ → List ℕ → Widths → Paragraph
+paragraph_by d r end breaks widths = record { clusters = clusters (all_glyphs r); steps = text_steps d r; end = end; breaks = breaks; widths = widths }
+
+-- one width for all lines
+abbrev pub same_widths : ℤ → Widths
+same_widths width = record { first = width; rest = width }
+
+-- a result along a direction as a paragraph whose lines are all to fit one width
 abbrev pub paragraph_of : Direction → Sides → ℕ → List ℕ → ℤ → Paragraph
-paragraph_of d r end breaks width = record { clusters = clusters (all_glyphs r); steps = text_steps d r; end = end; breaks = breaks; width = width }
+paragraph_of d r end breaks width = paragraph_by d r end breaks (same_widths width)
+
+-- the width that a line is to fit, by the byte at which it begins: the first line has one of its own
+abbrev pub width_from : Widths → ℕ → ℤ
+width_from w start = if start == 0 then w.first else w.rest
 
 -- the pen with a glyph, if its cluster is before a byte
 abbrev pub pen_with : ℕ → ℤ → Step → ℤ
@@ -72,12 +85,12 @@ IsOnePiece p from to = (byte : ℕ) → MayEnd p byte → from < byte → to ≤
 
 -- the text from one byte to another fits a line: its width does, or it is one piece
 abbrev pub Fits : Paragraph → ℕ → ℕ → Type 0
-Fits p from to = (width_between p.steps from to ≤ℤ p.width) ⊎ IsOnePiece p from to
+Fits p from to = (width_between p.steps from to ≤ℤ width_from p.widths from) ⊎ IsOnePiece p from to
 
 -- a line takes as many pieces as fit: it fits up to each byte at which it might have ended and to its end, and with the next piece its width wouldn't fit
 pub record IsFilled (p : Paragraph) (l : Line) : Type 0 where
   pub fits : (byte : ℕ) → MayEnd p byte → l.start < byte → byte ≤ l.end → Fits p l.start byte
-  pub full : (next : ℕ) → IsNextEnd p l.end next → p.width <ℤ width_between p.steps l.start next
+  pub full : (next : ℕ) → IsNextEnd p l.end next → width_from p.widths l.start <ℤ width_between p.steps l.start next
 
 -- whether breaks at both ends of a line are safe
 abbrev pub is_own : Paragraph → Line → Bool
@@ -120,9 +133,21 @@ pub record CanBeCut (d : Direction) (r : Sides) (text breaks : List ℕ) : Type 
   pub line : IsInLine d r
   pub ends : AreBreaks text 0 breaks
 
+-- a result of a text of `end` units can be cut into lines along a direction
+pub record CanBeCutTo (d : Direction) (r : Sides) (end : ℕ) (breaks : List ℕ) : Type 0 where
+  pub line : IsInLine d r
+  pub ends : AreBreaksTo end 0 breaks
+
 -- why a result isn't cut into lines: the first of these faults; of want of memory no clause says more
 abbrev pub IsFaultOf : Direction → Sides → List ℕ → List ℕ → LineFault → Type 0
 IsFaultOf d r text breaks OutOfMemory = Unit {0}
 IsFaultOf d r text breaks TooManyGlyphs = 2 ^ 31 ≤ length (all_glyphs r)
 IsFaultOf d r text breaks ClustersOutOfOrder = length (all_glyphs r) < 2 ^ 31 × (¬ IsInOrder (is_backward d) (clusters (all_glyphs r)))
 IsFaultOf d r text breaks InvalidBreaks = IsInLine d r × (¬ AreBreaks text 0 breaks)
+
+-- why the result of a text of `end` units isn't cut into lines, likewise
+abbrev pub IsFaultTo : Direction → Sides → ℕ → List ℕ → LineFault → Type 0
+IsFaultTo d r end breaks OutOfMemory = Unit {0}
+IsFaultTo d r end breaks TooManyGlyphs = 2 ^ 31 ≤ length (all_glyphs r)
+IsFaultTo d r end breaks ClustersOutOfOrder = length (all_glyphs r) < 2 ^ 31 × (¬ IsInOrder (is_backward d) (clusters (all_glyphs r)))
+IsFaultTo d r end breaks InvalidBreaks = IsInLine d r × (¬ AreBreaksTo end 0 breaks)

@@ -4,14 +4,14 @@ ghost use Rattle.kuspveli.specs.buffer_common.Direction.{is_backward};
 ghost use Rattle.kuspveli.specs.buffer_glyphs.Items.{clusters};
 ghost use Rattle.kuspveli.specs.buffer_glyphs.Order.{IsInOrder};
 ghost use Rattle.kuspveli.specs.shaping_buffer.buffer_core.Sides.{all_glyphs};
-ghost use Rattle.line_pieces.specs.Breaks.{AreBreaks};
+ghost use Rattle.line_pieces.specs.Breaks.{AreBreaksTo};
 ghost use Rattle.line_pieces.specs.Cuts.{IsCountedTo, IsMeasured, IsPieceAdded};
 ghost use Rattle.line_pieces.specs.Cuts.{glyph_range, line_of, own_glyphs, stays, with_line};
-ghost use Rattle.line_pieces.specs.Lines.{AreLines, CanBeCut, IsFaultOf, paragraph_of};
+ghost use Rattle.line_pieces.specs.Lines.{AreLines, CanBeCut, CanBeCutTo, IsFaultOf, IsFaultTo, paragraph_by, paragraph_of, width_from};
 
 use crate::cuts::{Cut, cut_at, first_cut};
-use crate::lines::{GlyphRange, Line, LineFault};
-use crate::tests_of_order::{are_breaks, are_in_order};
+use crate::lines::{GlyphRange, Line, LineFault, Widths};
+use crate::tests_of_order::{are_breaks, are_breaks_to, are_in_order};
 use kuspveli::{Direction, GlyphBuffer};
 use std::alloc::{AllocError, Global};
 
@@ -21,15 +21,16 @@ pub struct Frame {
     direction: Direction,
     /// How many glyphs the paragraph has.
     count: usize,
-    /// How many bytes its text has.
+    /// How many bytes its text has, or other units.
     end: usize,
-    width: i64,
+    widths: Widths,
 }
 
 /// Cuts a paragraph into lines. `glyphs` is what shaping the whole text along the direction gave, where safe breaks
 /// were requested; a line may end at each of `breaks`, which are indices of bytes of the text (those of UAX 14), and at
 /// the end of the text. A line takes the pieces between these as long as they fit the width, in font units, and one at
 /// least. `LineFault` says why none is cut.
+#[tactic(auto, using(crate::proofs::Filled::breaks_to_end))]
 pub fn cut_lines(
     alloc: Global,
     glyphs: &GlyphBuffer,
@@ -57,9 +58,46 @@ pub fn cut_lines(
         // as many as there are glyphs
         count: glyphs.glyph_positions().len(),
         end: text.len(),
-        width,
+        widths: Widths {
+            first: width,
+            rest: width,
+        },
     };
-    let lines = fill_lines(alloc, glyphs, frame, text, breaks)?;
+    let lines = fill_lines(alloc, glyphs, frame, breaks)?;
+    Ok(lines)
+}
+
+/// Cuts a paragraph into lines, as `cut_lines` does, by indices of the units that its clusters are of, as of UTF-16: its
+/// text has `end` of them, and a line may end at each of `breaks`. The first line fits a width of its own.
+pub fn cut_unit_lines(
+    alloc: Global,
+    glyphs: &GlyphBuffer,
+    end: usize,
+    direction: Direction,
+    breaks: &[usize],
+    widths: Widths,
+) -> Result<Vec<Line>, LineFault>
+    ensures lines { IfOk result
+        (λ lines. AreLines (paragraph_by direction glyphs.now end breaks.now widths) lines.items) }
+    ensures may { OnOk result (CanBeCutTo direction glyphs.now end breaks.now) }
+    ensures fault { IfErr result (IsFaultTo direction glyphs.now end breaks.now) }
+{
+    if glyphs.len() > i32::MAX as usize {
+        return Err(LineFault::TooManyGlyphs);
+    }
+    if !are_in_order(glyphs.glyph_infos(), direction.is_backward()) {
+        return Err(LineFault::ClustersOutOfOrder);
+    }
+    if !are_breaks_to(end, breaks) {
+        return Err(LineFault::InvalidBreaks);
+    }
+    let frame = Frame {
+        direction,
+        count: glyphs.glyph_positions().len(),
+        end,
+        widths,
+    };
+    let lines = fill_lines(alloc, glyphs, frame, breaks)?;
     Ok(lines)
 }
 
@@ -68,17 +106,15 @@ fn fill_lines(
     alloc: Global,
     glyphs: &GlyphBuffer,
     frame: Frame,
-    text: &str,
     breaks: &[usize],
 ) -> Result<Vec<Line>, AllocError>
     requires count { frame.count ≡ length (all_glyphs glyphs.now) }
     requires few { frame.count < 2 ^ 31 }
     requires positions { length glyphs.now.positions ≡ length (all_glyphs glyphs.now) }
     requires order { IsInOrder (is_backward frame.direction) (clusters (all_glyphs glyphs.now)) }
-    requires end { frame.end ≡ length text.now }
-    requires breaks { AreBreaks text.now 0 breaks.now }
+    requires breaks { AreBreaksTo frame.end 0 breaks.now }
     ensures { IfOk result
-        (λ lines. AreLines (paragraph_of frame.direction glyphs.now frame.end breaks.now frame.width) lines.items) }
+        (λ lines. AreLines (paragraph_by frame.direction glyphs.now frame.end breaks.now frame.widths) lines.items) }
 {
     let mut lines = Vec::new(alloc);
     let mut start = first_cut();
@@ -111,14 +147,25 @@ fn add_piece(
     requires next { IsMeasured next }
     requires counted { IsCountedTo frame start last }
     ensures { IfOk result
-        (λ cut. IsPieceAdded (stays frame.width start last next) start last (line_of frame start last) cut
-        lines.old.items lines.new.items) }
+        (λ cut. IsPieceAdded (stays (width_from frame.widths start.byte) start last next) start last
+        (line_of frame start last) cut lines.old.items lines.new.items) }
 {
-    if stays(frame.width, start, last, next) {
+    if stays(width_from(frame.widths, start.byte), start, last, next) {
         return Ok(start);
     }
     lines.push(line_of(frame, start, last))?;
     Ok(last)
+}
+
+/// The width that a line is to fit, by the byte at which it begins.
+fn width_from(widths: Widths, start: usize) -> i64
+    ensures { result ≡ width_from widths start }
+{
+    if start == 0 {
+        widths.first
+    } else {
+        widths.rest
+    }
 }
 
 /// Whether a piece stays in the line: it is the first one, or the line fits the width with it.

@@ -12,5 +12,5 @@ mod rows;
 mod steps;
 mod tests_of_order;
 
-pub use filling::cut_lines;
-pub use lines::{GlyphRange, Line, LineFault};
+pub use filling::{cut_lines, cut_unit_lines};
+pub use lines::{GlyphRange, Line, LineFault, Widths};

@@ -12,12 +12,20 @@ pub struct GlyphRange {
     pub end: usize,
 }
 
+/// The widths that lines are to fit, in font units: that of the first one, as where the text continues a line, and that of
+/// all others.
+#[derive(Clone, Copy, PartialEq, Eq, Debug)]
+pub struct Widths {
+    pub first: i64,
+    pub rest: i64,
+}
+
 /// A line of a paragraph.
 #[derive(Clone, Copy, PartialEq, Eq, Debug)]
 pub struct Line {
-    /// The index of its first byte.
+    /// The index of its first byte, or of another unit that clusters are of.
     pub start: usize,
-    /// The index after its last byte.
+    /// The index after its last one.
     pub end: usize,
     /// The sum of the advances of the paragraph's glyphs of these bytes.
     pub width: i64,
@@ -36,7 +44,8 @@ pub enum LineFault {
     /// The clusters of the glyphs aren't in order along a line of this direction.
     #[error("clusters out of order")]
     ClustersOutOfOrder,
-    /// A byte at which a line may end isn't after byte 0 and the one before it, or no character of the text ends there.
+    /// A byte at which a line may end isn't after byte 0 and the one before it, or no character of the text ends there; or
+    /// an index of units is past the end of the text.
     #[error("invalid breaks")]
     InvalidBreaks,
 }

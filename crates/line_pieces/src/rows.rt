@@ -1,5 +1,5 @@
 //! Lines of a few paragraphs by hand: clusters, advances and flags of glyphs, and what they are cut into.
-use crate::{Line, LineFault, cut_lines};
+use crate::{Line, LineFault, Widths, cut_lines, cut_unit_lines};
 use kuspveli::{Direction, GlyphBuffer, GlyphInfo, GlyphPosition, UnicodeBuffer};
 use std::alloc::{AllocError, Global};
 use std::process::Abort;
@@ -120,12 +120,60 @@ fn has_lines(
     want: &str,
 ) -> Result<(), Fail> {
     let lines = cut(alloc, row, breaks, width)??;
+    are_shown(rt, alloc, &lines, want)
+}
+
+fn are_shown(rt: &impl Abort, alloc: Global, lines: &[Line], want: &str) -> Result<(), Fail> {
     let mut text = String::new(alloc);
-    for line in &lines {
+    for line in lines {
         push_line(&mut text, *line)?;
     }
     assert_eq!(rt; text.as_str(), want);
     Ok(())
+}
+
+/// The lines of a text by units, as many as it has bytes.
+fn cut_units(
+    alloc: Global,
+    row: Row<'_>,
+    breaks: &[usize],
+    widths: Widths,
+) -> Result<Result<Vec<Line>, LineFault>, AllocError> {
+    let glyphs = glyphs_of(alloc, row)?;
+    let end = row.text.len();
+    Ok(cut_unit_lines(alloc, &glyphs, end, row.direction, breaks, widths))
+}
+
+fn has_unit_lines(
+    rt: &impl Abort,
+    alloc: Global,
+    row: Row<'_>,
+    breaks: &[usize],
+    widths: Widths,
+    want: &str,
+) -> Result<(), Fail> {
+    let lines = cut_units(alloc, row, breaks, widths)??;
+    are_shown(rt, alloc, &lines, want)
+}
+
+fn has_unit_fault(
+    rt: &impl Abort,
+    alloc: Global,
+    row: Row<'_>,
+    breaks: &[usize],
+    want: LineFault,
+) -> Result<(), Fail> {
+    let found = match cut_units(alloc, row, breaks, widths(1000, 1000))? {
+        Ok(_) => None,
+        Err(LineFault::OutOfMemory) => return Err(Fail::from(LineFault::OutOfMemory)),
+        Err(fault) => Some(fault),
+    };
+    assert!(rt; found == Some(want));
+    Ok(())
+}
+
+const fn widths(first: i64, rest: i64) -> Widths {
+    Widths { first, rest }
 }
 
 fn has_fault(
@@ -163,6 +211,25 @@ fn forward_lines_are_filled(rt: HostRuntime) -> Result<(), Fail> {
     has_lines(&rt, alloc, FORWARD, &[1, 2, 3, 4], 1100, three)?;
     let empty = make_row("", Direction::LeftToRight, &[], &[], &[]);
     has_lines(&rt, alloc, empty, &[], 1000, "")
+}
+
+#[test]
+fn the_first_line_has_its_own_width(rt: HostRuntime) -> Result<(), Fail> {
+    let alloc = rt.alloc();
+    let both = "0-3@1350=0-3 3-5@1100=3-5";
+    let whole = "0-5@2450=0-5";
+    has_unit_lines(&rt, alloc, FORWARD, &[3], widths(2450, 100), whole)?;
+    has_unit_lines(&rt, alloc, FORWARD, &[3], widths(2449, 9999), both)?;
+    has_unit_lines(&rt, alloc, FORWARD, &[3], widths(-1, 9999), both)?;
+    // 500, then 600 + 250 + 500, then 600
+    let three = "0-1@500=0-1 1-4@1350=1-4 4-5@600=4-5";
+    let breaks = [1, 2, 3, 4, 5];
+    has_unit_lines(&rt, alloc, FORWARD, &breaks, widths(500, 1400), three)?;
+    has_unit_fault(&rt, alloc, FORWARD, &[0], LineFault::InvalidBreaks)?;
+    has_unit_fault(&rt, alloc, FORWARD, &[3, 3], LineFault::InvalidBreaks)?;
+    has_unit_fault(&rt, alloc, FORWARD, &[6], LineFault::InvalidBreaks)?;
+    let turned = make_row("ab", Direction::LeftToRight, &[1, 0], &[500, 600], &[]);
+    has_unit_fault(&rt, alloc, turned, &[1], LineFault::ClustersOutOfOrder)
 }
 
 #[test]

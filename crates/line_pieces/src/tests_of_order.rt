@@ -1,10 +1,10 @@
 //! Tests of what is handed in: the order of clusters, and the bytes at which lines may end.
-ghost use Rattle.std.specs.Prelude.{◌≡◌, ◌<◌, ◌↔◌, IsTrue};
+ghost use Rattle.std.specs.Prelude.{◌≡◌, ◌≤◌, ◌<◌, ◌↔◌, IsTrue};
 ghost use Rattle.std.specs.Str.{IsCharBoundary};
 ghost use Rattle.kuspveli.specs.buffer_glyphs.Items.{clusters};
 ghost use Rattle.kuspveli.specs.buffer_glyphs.Order.{IsInOrder};
 ghost use Rattle.kuspveli.specs.buffer_parts.Slices.{first_or};
-ghost use Rattle.line_pieces.specs.Breaks.{AreBreaks};
+ghost use Rattle.line_pieces.specs.Breaks.{AreBreaks, AreBreaksTo};
 ghost use Rattle.line_pieces.specs.Steps.{keep_order, steps_back};
 
 use kuspveli::GlyphInfo;
@@ -64,6 +64,28 @@ pub(crate) fn are_breaks(text: &str, breaks: &[usize]) -> bool
         last = *byte;
     }
     true
+}
+
+/// Whether lines may end at these indices of the units of a text of `end` units: each is after the one before, and none is
+/// past the end.
+pub(crate) fn are_breaks_to(end: usize, breaks: &[usize]) -> bool
+    ensures { IsTrue result ↔ AreBreaksTo end 0 breaks.now }
+{
+    let mut last = 0;
+    for unit in breaks {
+        if !is_break_to(end, last, *unit) {
+            return false;
+        }
+        last = *unit;
+    }
+    true
+}
+
+/// Whether a line may end at a unit after the last break.
+fn is_break_to(end: usize, last: usize, unit: usize) -> bool
+    ensures { IsTrue result ↔ (last < unit × unit ≤ end) }
+{
+    last < unit && unit <= end
 }
 
 /// Whether a line may end at a byte of a text after the last break.

@@ -17,7 +17,7 @@ add_piece-requires-clause-counted c =
 
 pub loop-byte-preserved : goal.loop-byte-preserved
 loop-byte-preserved c =
-    filling_more c.args.glyphs.now c.args.frame c.args.text.now c.args.breaks.now c.requires.positions c.requires.count c.loop-byte.start c.loop-byte.last c.cut_at-next.result c.in_ok-start.start c.loop-byte.lines.items c.add_piece.new.lines.items
+    filling_more c.args.glyphs.now c.args.frame c.args.breaks.now c.requires.positions c.requires.count c.loop-byte.start c.loop-byte.last c.cut_at-next.result c.in_ok-start.start c.loop-byte.lines.items c.add_piece.new.lines.items
     c.loop-byte.byte-index _ (omega arith) c.loop-byte.invariant c.cut_at-next.ensures.cut c.cut_at-next.ensures.byte c.in_ok-start.ensures
 
 pub end_line-requires-clause-start : goal.end_line-requires-clause-start
@@ -32,7 +32,7 @@ end_line-requires-clause-counted c =
 
 pub returns-then-last-frame : goal.returns-then-last-frame
 returns-then-last-frame c =
-    lines_whole c.args.glyphs.now c.args.frame c.args.text.now c.args.breaks.now c.requires.positions c.requires.count c.loop-byte.start c.loop-byte.last c.loop-byte.lines.items c.end_line.new.lines.items c.requires.end c.requires.breaks
+    lines_whole c.args.glyphs.now c.args.frame c.args.breaks.now c.requires.positions c.requires.count c.loop-byte.start c.loop-byte.last c.loop-byte.lines.items c.end_line.new.lines.items c.requires.breaks
     c.loop-byte.invariant.filled (omega arith) c.in_ok-end_line.ensures
 
 pub cut_at-next-requires-2-clause-after : goal.cut_at-next-requires-2-clause-after
@@ -54,7 +54,7 @@ add_piece-requires-2-clause-counted c =
 pub end_line-requires-2-clause-start : goal.end_line-requires-2-clause-start
 end_line-requires-2-clause-start c =
     let piece =
-    last_piece c.args.glyphs.now c.args.frame c.args.text.now c.args.breaks.now c.requires.positions c.requires.count c.loop-byte.start c.loop-byte.last c.cut_at-next-2.result c.in_ok-line_start.line_start c.loop-byte.lines.items
+    last_piece c.args.glyphs.now c.args.frame c.args.breaks.now c.requires.positions c.requires.count c.loop-byte.start c.loop-byte.last c.cut_at-next-2.result c.in_ok-line_start.line_start c.loop-byte.lines.items
     c.add_piece-2.new.lines.items c.loop-byte.byte-index (omega arith) c.loop-byte.invariant (let most = c.loop-byte.invariant.left.within in omega arith) c.cut_at-next-2.ensures.cut c.cut_at-next-2.ensures.byte c.in_ok-line_start.ensures
     in
     measured c.args.frame.direction c.args.glyphs.now c.args.frame.end c.args.frame.count c.in_ok-line_start.line_start c.requires.positions c.requires.count c.requires.few piece.first
@@ -65,7 +65,7 @@ end_line-requires-2-clause-end c = measured c.args.frame.direction c.args.glyphs
 pub end_line-requires-2-clause-counted : goal.end_line-requires-2-clause-counted
 end_line-requires-2-clause-counted c =
     let piece =
-    last_piece c.args.glyphs.now c.args.frame c.args.text.now c.args.breaks.now c.requires.positions c.requires.count c.loop-byte.start c.loop-byte.last c.cut_at-next-2.result c.in_ok-line_start.line_start c.loop-byte.lines.items
+    last_piece c.args.glyphs.now c.args.frame c.args.breaks.now c.requires.positions c.requires.count c.loop-byte.start c.loop-byte.last c.cut_at-next-2.result c.in_ok-line_start.line_start c.loop-byte.lines.items
     c.add_piece-2.new.lines.items c.loop-byte.byte-index (omega arith) c.loop-byte.invariant (let most = c.loop-byte.invariant.left.within in omega arith) c.cut_at-next-2.ensures.cut c.cut_at-next-2.ensures.byte c.in_ok-line_start.ensures
     in
     counted c.args.frame.direction c.args.glyphs.now c.args.frame c.in_ok-line_start.line_start c.cut_at-next-2.result c.requires.positions c.requires.count piece.first piece.latest piece.ordered
@@ -73,8 +73,8 @@ end_line-requires-2-clause-counted c =
 pub returns : goal.returns
 returns c =
     let piece =
-    last_piece c.args.glyphs.now c.args.frame c.args.text.now c.args.breaks.now c.requires.positions c.requires.count c.loop-byte.start c.loop-byte.last c.cut_at-next-2.result c.in_ok-line_start.line_start c.loop-byte.lines.items
+    last_piece c.args.glyphs.now c.args.frame c.args.breaks.now c.requires.positions c.requires.count c.loop-byte.start c.loop-byte.last c.cut_at-next-2.result c.in_ok-line_start.line_start c.loop-byte.lines.items
     c.add_piece-2.new.lines.items c.loop-byte.byte-index (omega arith) c.loop-byte.invariant (let most = c.loop-byte.invariant.left.within in omega arith) c.cut_at-next-2.ensures.cut c.cut_at-next-2.ensures.byte c.in_ok-line_start.ensures
     in
-    lines_whole c.args.glyphs.now c.args.frame c.args.text.now c.args.breaks.now c.requires.positions c.requires.count c.in_ok-line_start.line_start c.cut_at-next-2.result c.add_piece-2.new.lines.items c.end_line-2.new.lines.items
-    c.requires.end c.requires.breaks piece c.cut_at-next-2.ensures.byte c.in_ok-end_line-2.ensures
+    lines_whole c.args.glyphs.now c.args.frame c.args.breaks.now c.requires.positions c.requires.count c.in_ok-line_start.line_start c.cut_at-next-2.result c.add_piece-2.new.lines.items c.end_line-2.new.lines.items
+    c.requires.breaks piece c.cut_at-next-2.ensures.byte c.in_ok-end_line-2.ensures
