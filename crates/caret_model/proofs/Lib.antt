@@ -11,3 +11,8 @@ pub mod SourceLines
 pub mod Nearest
 pub mod Finding
 pub mod Made
+pub mod Between
+pub mod TextOrder
+pub mod Divided
+pub mod Units
+pub mod Stopped

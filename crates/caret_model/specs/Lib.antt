@@ -4,3 +4,5 @@ pub mod Selections
 pub mod Laws
 pub mod Closer
 pub mod Pens
+pub mod Stops
+pub mod Parted

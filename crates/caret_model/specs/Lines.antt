@@ -1,9 +1,10 @@
 -- The carets of a line of glyphs. Left and right are said of a horizontal line; of a vertical one they are its upper and its lower side.
-use Rattle.std.specs.Prelude.{ℕ, ℤ, pos, ◌≡◌, ◌≤◌, ◌^◌, ◌+ℤ◌, Bool, true, false, if◌then◌else◌, List, [], ◌∷◌, ◌++◌, fold, length, map, take}
+use Rattle.std.specs.Prelude.{ℕ, ℤ, pos, ◌≡◌, ◌≤◌, ◌<◌, ◌^◌, IsTrue, ◌+ℤ◌, Bool, true, false, if◌then◌else◌, List, [], ◌∷◌, ◌++◌, fold, length, map, take}
 use Rattle.kuspveli.specs.buffer_common.Direction.{is_backward, is_horizontal}
 use Rattle.kuspveli.specs.buffer_common.declared.direction.Direction.{Direction}
 use Rattle.kuspveli.specs.buffer_glyphs.declared.position.GlyphPosition.{GlyphPosition}
 use Rattle.kuspveli.specs.buffer_glyphs.Items.{clusters}
+use Rattle.kuspveli.specs.buffer_glyphs.Order.{IsOrdered, has_number}
 use Rattle.kuspveli.specs.buffer_parts.Slices.{AreJoined}
 use Rattle.kuspveli.specs.shape_slices.declared.slices.SourceSlice.{SourceSlice}
 use Rattle.kuspveli.specs.shape_slices.Fitting.{SlicesFit}
@@ -11,7 +12,7 @@ use Rattle.kuspveli.specs.shape_slices.Runs.{AreSourceSlices, along_glyphs, byte
 use Rattle.kuspveli.specs.shaping_buffer.buffer_core.Sides.{Sides, all_glyphs}
 use Rattle.caret_model.specs.declared.carets.Caret.{Caret}
 use Rattle.caret_model.specs.declared.carets.CaretFault.{CaretFault}
-use Rattle.caret_model.specs.declared.carets.CaretFault.TheVariants.{OutOfMemory, NoSlices, TooManyGlyphs}
+use Rattle.caret_model.specs.declared.carets.CaretFault.TheVariants.{OutOfMemory, NoSlices, TooManyGlyphs, InvalidStops}
 
 -- the advance of a glyph along its line
 abbrev pub advance_along : Direction → GlyphPosition → ℤ
@@ -63,21 +64,40 @@ pub record IsLine (l : Line) : Type 0 where
   pub joined : AreJoined 0 l.end (along_glyphs l.backward (map byte_range l.slices))
   pub bytes : map (λ (c : Caret). c.byte) l.carets ≡ caret_bytes l.backward l.end l.slices
 
--- the line of the result of a text, along a direction
-pub record IsLineOf (d : Direction) (result : Sides) (text : List ℕ) (l : Line) : Type 0 where
-  pub slices : AreSourceSlices (clusters (all_glyphs result)) (length text) l.slices
-  pub carets : l.carets ≡ carets_of d result.positions (length text) l.slices
+-- the line of the result of a text of n bytes, or of other units that clusters are of, along a direction
+pub record IsLineTo (d : Direction) (result : Sides) (n : ℕ) (l : Line) : Type 0 where
+  pub slices : AreSourceSlices (clusters (all_glyphs result)) n l.slices
+  pub carets : l.carets ≡ carets_of d result.positions n l.slices
   pub backward : l.backward ≡ is_backward d
-  pub end : l.end ≡ length text
+  pub end : l.end ≡ n
   pub line : IsLine l
+
+-- the line of the result of a text, along a direction
+abbrev pub IsLineOf : Direction → Sides → List ℕ → Line → Type 0
+IsLineOf d result text l = IsLineTo d result (length text) l
 
 -- a result has a line along a direction: its glyphs can be traced to slices of the text, and these join to the text, from the last glyph on where the direction is backward
 pub record HasLine (d : Direction) (result : Sides) (text : List ℕ) : Type 0 where
   pub fits : SlicesFit result text
   pub joined : (ss : List SourceSlice) → AreSourceSlices (clusters (all_glyphs result)) (length text) ss → AreJoined 0 (length text) (along_glyphs (is_backward d) (map byte_range ss))
 
+-- the result of a text of `end` units has a line along a direction: its clusters are in order, each is that of a unit, 0 is among them, and their slices join to the text, from the last glyph on where the direction is backward
+pub record HasLineTo (d : Direction) (result : Sides) (end : ℕ) : Type 0 where
+  pub ordered : IsOrdered (clusters (all_glyphs result))
+  pub within : (n : ℕ) → IsTrue (has_number (clusters (all_glyphs result)) n) → n < end
+  pub zero_there : IsTrue (has_number (clusters (all_glyphs result)) 0)
+  pub joined : (ss : List SourceSlice) → AreSourceSlices (clusters (all_glyphs result)) end ss → AreJoined 0 end (along_glyphs (is_backward d) (map byte_range ss))
+
 -- why there are no carets of a result: of want of memory no clause says more
 abbrev pub IsFaultOf : Direction → Sides → List ℕ → CaretFault → Type 0
 IsFaultOf d result text OutOfMemory = Unit {0}
 IsFaultOf d result text NoSlices = ¬ HasLine d result text
 IsFaultOf d result text TooManyGlyphs = 2 ^ 32 ≤ length (all_glyphs result)
+IsFaultOf d result text InvalidStops = ⊥
+
+-- why there are no carets of the result of a text of `end` units, likewise
+abbrev pub IsFaultTo : Direction → Sides → ℕ → CaretFault → Type 0
+IsFaultTo d result end OutOfMemory = Unit {0}
+IsFaultTo d result end NoSlices = ¬ HasLineTo d result end
+IsFaultTo d result end TooManyGlyphs = 2 ^ 32 ≤ length (all_glyphs result)
+IsFaultTo d result end InvalidStops = ⊥

@@ -30,6 +30,9 @@ pub enum CaretFault {
     /// There are 2^32 glyphs or more, so a sum of their advances might not fit.
     #[error("too many glyphs")]
     TooManyGlyphs,
+    /// A stop isn't after byte 0 and the one before it, or it is past the end of the text.
+    #[error("invalid stops")]
+    InvalidStops,
 }
 
 impl From<AllocError> for CaretFault {

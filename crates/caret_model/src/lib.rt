@@ -10,6 +10,7 @@ mod model;
 mod moves;
 #[cfg(test)]
 mod rows;
+mod stops;
 
 pub use carets::{Caret, CaretFault, Selection};
 pub use model::CaretModel;

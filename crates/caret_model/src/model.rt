@@ -1,13 +1,15 @@
 //! The carets of a shaped line.
-ghost use Rattle.std.specs.Prelude.{◌≡◌, ◌<◌, ◌^◌, IfErr, IfOk, OnOk, false, length, true};
+ghost use Rattle.std.specs.Prelude.{◌≡◌, ◌≢◌, ◌<◌, ◌^◌, IfErr, IfOk, OnOk, false, length, true};
 ghost use Rattle.kuspveli.specs.shaping_buffer.buffer_core.Sides.{all_glyphs};
-ghost use Rattle.caret_model.specs.Lines.{HasLine, IsFaultOf, IsLineOf};
+ghost use Rattle.caret_model.specs.Lines.{HasLine, IsFaultOf, IsFaultTo, IsLineOf, IsLineTo};
 ghost use Rattle.caret_model.specs.Moves.{IsClosest, IsNearest, IsSliceAt, caret_at, next_visual, previous_visual};
 ghost use Rattle.caret_model.specs.Selections.{selection_between, selection_of};
+ghost use Rattle.caret_model.specs.Stops.{AreStops, carets_at_stops};
 
 use crate::carets::{Caret, CaretFault, Selection};
 use crate::line::{are_at_beginning, carets_of};
 use crate::moves::{closest, get, index_at, nearest};
+use crate::stops::{are_stops, with_stops};
 use kuspveli::hb_shape::fitting::slices_fit;
 use kuspveli::hb_shape::{SourceSlice, source_slices};
 use kuspveli::laws::slices::laws::law_source_slices_join;
@@ -66,6 +68,24 @@ impl CaretModel {
             backward,
             end,
         })
+    }
+
+    /// The carets of the result of a text of `end` units that its clusters are of, as of UTF-16; a caret's byte is then the
+    /// index of a unit.
+    #[tactic(auto, using(crate::proofs::Units::line_to, crate::proofs::Units::fault_to))]
+    pub fn of_units(
+        alloc: Global,
+        glyphs: &GlyphBuffer,
+        end: usize,
+        direction: Direction,
+    ) -> Result<CaretModel, CaretFault>
+        ensures line { IfOk result (IsLineTo direction glyphs.now end) }
+        ensures few { OnOk result (length (all_glyphs glyphs.now) < 2 ^ 32) }
+        ensures fault { IfErr result (IsFaultTo direction glyphs.now end) }
+    {
+        // a line depends on where characters begin alone: these begin at each unit
+        let units = "a".repeat(alloc, end)?;
+        CaretModel::new(alloc, glyphs, &units, direction)
     }
 
     /// The carets from left to right; of a vertical line, from its top.
@@ -135,6 +155,22 @@ impl CaretModel {
             }
         }
         None
+    }
+
+    /// The carets in the order of the text, also those at stops inside of clusters, as of a ligature's letters: they divide
+    /// the width of a cluster evenly. Stops rise, from after byte 0 up to the end of the text; those between clusters have
+    /// carets in any case.
+    pub fn carets_at_stops(&self, alloc: Global, stops: &[usize]) -> Result<Vec<Caret>, CaretFault>
+        ensures carets { IfOk result (λ carets. carets.items ≡ carets_at_stops self.now stops.now) }
+        ensures may { OnOk result (AreStops self.now.end 0 stops.now) }
+        ensures fault { IfErr result (λ e. e ≢ CaretFault.OutOfMemory
+            → (e ≡ CaretFault.InvalidStops) × (¬ AreStops self.now.end 0 stops.now)) }
+    {
+        if !are_stops(self.end, stops) {
+            return Err(CaretFault::InvalidStops);
+        }
+        let carets = with_stops(alloc, &self.carets, self.backward, stops)?;
+        Ok(carets)
     }
 
     /// What is selected from one byte to another one; none where no caret may stand at one of them, and where the first is

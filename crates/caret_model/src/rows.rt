@@ -43,6 +43,12 @@ fn model_of(alloc: Global, row: Row<'_>) -> Result<Result<CaretModel, CaretFault
     Ok(CaretModel::new(alloc, &glyphs, row.text, row.direction))
 }
 
+/// The model of a text by units, as many as it has bytes.
+fn unit_model(alloc: Global, row: Row<'_>) -> Result<Result<CaretModel, CaretFault>, AllocError> {
+    let glyphs = glyphs_of(alloc, row)?;
+    Ok(CaretModel::of_units(alloc, &glyphs, row.text.len(), row.direction))
+}
+
 fn push_caret(text: &mut String, caret: Caret) -> Result<(), AllocError> {
     let Caret { byte, position } = caret;
     if !text.is_empty() {
@@ -52,18 +58,52 @@ fn push_caret(text: &mut String, caret: Caret) -> Result<(), AllocError> {
 }
 
 /// Each caret with its byte and its position.
-fn carets_of(alloc: Global, model: &CaretModel) -> Result<String, AllocError> {
+fn show(alloc: Global, carets: &[Caret]) -> Result<String, AllocError> {
     let mut text = String::new(alloc);
-    for caret in model.carets() {
+    for caret in carets {
         push_caret(&mut text, *caret)?;
     }
     Ok(text)
 }
 
+/// The carets of a line by bytes, and by as many units.
 fn has_carets(rt: &impl Abort, alloc: Global, row: Row<'_>, want: &str) -> Result<(), Fail> {
     let model = model_of(alloc, row)??;
-    let carets = carets_of(alloc, &model)?;
+    let carets = show(alloc, model.carets())?;
     assert_eq!(rt; carets.as_str(), want);
+    let units = unit_model(alloc, row)??;
+    let unit_carets = show(alloc, units.carets())?;
+    assert_eq!(rt; unit_carets.as_str(), want);
+    Ok(())
+}
+
+fn has_stops(
+    rt: &impl Abort,
+    alloc: Global,
+    row: Row<'_>,
+    stops: &[usize],
+    want: &str,
+) -> Result<(), Fail> {
+    let model = unit_model(alloc, row)??;
+    let found = model.carets_at_stops(alloc, stops)?;
+    let carets = show(alloc, &found)?;
+    assert_eq!(rt; carets.as_str(), want);
+    Ok(())
+}
+
+fn refuses_stops(
+    rt: &impl Abort,
+    alloc: Global,
+    row: Row<'_>,
+    stops: &[usize],
+) -> Result<(), Fail> {
+    let model = unit_model(alloc, row)??;
+    let found = match model.carets_at_stops(alloc, stops) {
+        Ok(_) => None,
+        Err(CaretFault::OutOfMemory) => return Err(Fail::from(CaretFault::OutOfMemory)),
+        Err(fault) => Some(fault),
+    };
+    assert!(rt; found == Some(CaretFault::InvalidStops));
     Ok(())
 }
 
@@ -134,6 +174,34 @@ fn lines_have_carets(rt: HostRuntime) -> Result<(), Fail> {
         has_carets(&rt, alloc, row, want)?;
     }
     Ok(())
+}
+
+#[test]
+fn stops_divide_clusters(rt: HostRuntime) -> Result<(), Fail> {
+    let alloc = rt.alloc();
+    let forward = make_row("afi", Direction::LeftToRight, &[0, 1], &[500, 520]);
+    has_stops(&rt, alloc, forward, &[], "0@0 1@500 3@1020")?;
+    has_stops(&rt, alloc, forward, &[2], "0@0 1@500 2@760 3@1020")?;
+    has_stops(&rt, alloc, forward, &[1, 2, 3], "0@0 1@500 2@760 3@1020")?;
+    let backward = make_row("afi", Direction::RightToLeft, &[1, 0], &[520, 500]);
+    has_stops(&rt, alloc, backward, &[1, 2], "0@1020 1@520 2@260 3@0")?;
+    // 1000 by three: 334, 333, 333
+    let thirds = make_row("ffi", Direction::LeftToRight, &[0], &[1000]);
+    has_stops(&rt, alloc, thirds, &[1, 2], "0@0 1@334 2@667 3@1000")?;
+    let back_thirds = make_row("ffi", Direction::RightToLeft, &[0], &[1000]);
+    has_stops(&rt, alloc, back_thirds, &[1, 2], "0@1000 1@666 2@333 3@0")?;
+    let down = make_row("ffi", Direction::TopToBottom, &[0], &[-900]);
+    has_stops(&rt, alloc, down, &[1, 2], "0@0 1@-300 2@-600 3@-900")
+}
+
+#[test]
+fn other_stops_are_refused(rt: HostRuntime) -> Result<(), Fail> {
+    let alloc = rt.alloc();
+    let row = make_row("afi", Direction::LeftToRight, &[0, 1], &[500, 520]);
+    refuses_stops(&rt, alloc, row, &[0])?;
+    refuses_stops(&rt, alloc, row, &[2, 2])?;
+    refuses_stops(&rt, alloc, row, &[2, 1])?;
+    refuses_stops(&rt, alloc, row, &[4])
 }
 
 #[test]
