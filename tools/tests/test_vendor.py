@@ -28,11 +28,29 @@ LONG = os.environ.get("KUSPVELI_LONG")
 CLIENT = """//! Names the library.
 #![tactic(auto)]
 
+use caret_model::Caret;
 use kuspveli::Direction;
+use line_pieces::Widths;
 
 /// The direction of a line of Hebrew.
 pub fn direction() -> Direction {
     Direction::RightToLeft
+}
+
+/// Lines of one width.
+pub fn same_widths(width: i64) -> Widths {
+    Widths {
+        first: width,
+        rest: width,
+    }
+}
+
+/// The caret of a text without characters.
+pub fn first_caret() -> Caret {
+    Caret {
+        byte: 0,
+        position: 0,
+    }
 }
 """
 
@@ -60,9 +78,9 @@ class Vendored(unittest.TestCase):
         patch.start()
         self.addCleanup(patch.stop)
 
-    def vendor(self) -> str:
+    def vendor(self, *options: str) -> str:
         with contextlib.redirect_stdout(io.StringIO()) as shown:
-            self.assertEqual(cli.main([str(self.other)]), 0)
+            self.assertEqual(cli.main([*options, str(self.other)]), 0)
         return shown.getvalue()
 
     def state(self) -> dict[str, str]:
@@ -118,6 +136,23 @@ class Vendored(unittest.TestCase):
         self.vendor()
         self.assertFalse((self.other / "crates/left").exists())
         self.assertNotIn("left:", (self.other / "crates.txt").read_text())
+
+    def test_clients(self) -> None:
+        """Crates that are named are laid too, with what they stand on; a run without them removes them."""
+        before = self.state()
+        write_files(self.root, {"crates.txt": CRATES + "client: kuspveli beside\nprogram: kuspveli\n"})
+        write_files(self.root / "crates/client", {"src/lib.rt": "client\n", "specs/Lib.antt": ""})
+        write_files(self.root / "crates/program", {"src/main.rt": "program\n"})
+        for name in ("none", "program", "client,own"):
+            with self.assertRaisesRegex(ToolFault, "is no library of crates.txt"):
+                cli.main(["--with", name, str(self.other)])
+        self.assertEqual(self.state(), before)
+        self.assertIn("5 crates", self.vendor("--with", "client,beside"))
+        self.assertEqual((self.other / "crates/client/src/lib.rt").read_text(), "client\n")
+        self.assertIn("client: kuspveli beside", (self.other / "crates.txt").read_text().splitlines())
+        self.assertIn(" 0 files", self.vendor("--with", "client"))
+        self.assertIn("3 crates", self.vendor())
+        self.assertFalse((self.other / "crates/client").exists() or (self.other / "crates/beside").exists())
 
     def test_cut_short(self) -> None:
         """A run that was ended before its list was written is done again."""
@@ -179,19 +214,22 @@ class Whole(unittest.TestCase):
             self.assertEqual(set(crates), set(all_needs("kuspveli", read_crates(ROOT))))
             for crate in crates:
                 self.assertTrue((Path(folder) / "crates" / crate / "src" / "lib.rt").is_file(), crate)
+            with contextlib.redirect_stdout(io.StringIO()):
+                cli.main(["--with", cli.CLIENTS, folder])
+            self.assertEqual(set(read_crates(Path(folder))) - set(crates), set(cli.CLIENTS.split(",")))
 
     @unittest.skipUnless(LONG and shutil.which("rt"), "minutes, or an hour's proofs: KUSPVELI_LONG=1 runs it")
     def test_client(self) -> None:
-        """rt check proves a crate over what is laid. It takes the libraries that a checkout on this machine has built of the
+        """rt check proves a crate over what is laid, with the crates for lines and carets. It takes the libraries that a checkout on this machine has built of the
         same text, as after rt ci or tools/build: then this is a minute or two. It proves those that none has, one after
         another, all of them in an hour and more."""
         with tempfile.TemporaryDirectory() as folder:
             client = {"src/lib.rt": CLIENT, "specs/Lib.antt": ""}
             write_files(Path(folder) / "crates" / "client", client)
-            write_files(Path(folder), {"crates.txt": "client: kuspveli\n"})
+            write_files(Path(folder), {"crates.txt": "client: line_pieces caret_model kuspveli\n"})
             (Path(folder) / ".git").mkdir()
             with contextlib.redirect_stdout(io.StringIO()):
-                cli.main([folder])
+                cli.main(["--with", cli.CLIENTS, folder])
             client = Path(folder) / "crates" / "client"
             ran = subprocess.run(["rt", "check"], cwd=client, capture_output=True, text=True, check=False)
             self.assertEqual(ran.returncode, 0, ran.stdout[-2000:] + ran.stderr[-2000:])
