@@ -522,8 +522,60 @@ kus_status_name (kus_status_t status)
     "NoTables", "NoSlices", "OtherFormat", "F1 Short", "F2 Kind", "F3 Order", "F4 Index", "F5 Missing", "F6 TooLarge",
     "SharedFont", "NoGlyph", "AdvanceRange"
   };
+  static const char *const of_lines[] = { "TooManyGlyphs", "ClustersOutOfOrder", "InvalidBreaks", "InvalidStops" };
+  if (30 <= status && status < 34)
+    return of_lines[status - 30];
   return status < sizeof names / sizeof *names ? names[status] : "?";
 }
+
+/* Lines and carets of the last text of a handle. They count in what its clusters count in: bytes of UTF-8, units of UTF-16
+ * or UTF-32, or the caller's own numbers; `end` is how many of them the text has. Widths and positions are in font units,
+ * whatever the scale.
+ * Neither call changes the font or the text's glyphs. They answer KUS_NO_FONT, KUS_OUT_OF_MEMORY and these; where it is no
+ * KUS_OK, *count is 0 and nothing is written. */
+enum {
+  /* 2^31 glyphs or more for lines, 2^32 for carets */
+  KUS_TOO_MANY_GLYPHS = 30,
+  /* clusters neither rise nor, from right to left or upward, fall, as they may at the levels that are not monotone */
+  KUS_CLUSTERS_OUT_OF_ORDER = 31,
+  /* an index at which a line may end is not after 0 and the one before it, or is past the end of the text */
+  KUS_INVALID_BREAKS = 32,
+  /* the same of an index at which a caret may stand */
+  KUS_INVALID_STOPS = 33
+};
+
+/* A line: its units, without their end; its width, downward on a vertical line; and the text's glyphs of these units,
+ * without their end, which are its own where breaks at both its ends are safe: they are those that shaping the line alone
+ * gives, if the text was shaped with KUS_FLAG_PRODUCE_SAFE_BREAKS. Else they are 0, and the line has to be shaped again,
+ * between the texts before and after it. */
+typedef struct {
+  size_t start, end;
+  int64_t width;
+  size_t first_glyph, end_glyph;
+  bool is_own;
+} kus_line_t;
+
+/* A caret: the index of the unit before which it stands, and its position from the left end of the text's glyphs, or from
+ * the upper one on a vertical line, where it is mostly negative. */
+typedef struct {
+  size_t index;
+  int64_t position;
+} kus_caret_t;
+
+/* Cuts the text into lines, which are written as far as there is room, *count is how many there are. A line may end at each
+ * of `breaks`, which rise (those of UAX 14), and at the end of the text. It takes the pieces between these as long as they
+ * fit `width`, spaces at its end too, and one at least. The first line fits `first_width` instead, for a text that goes on
+ * in a line of other ones: where even its first piece is wider, a new line is begun for the text, and it is cut again. */
+kus_status_t kus_cut_lines (kus_font_t *font, size_t end, const size_t *breaks, size_t num_breaks, int64_t first_width,
+                            int64_t width, kus_line_t *lines, size_t lines_room, size_t *count);
+
+/* The carets of the text, in its order, which are written as far as there is room, *count is how many there are: one before
+ * each cluster and one at the end of the text; and one at each of `stops` inside of a cluster, which rise (where UAX 29 lets
+ * a caret stand), as between the letters of a ligature: they divide its width evenly, since GDEF's carets of ligatures are
+ * not read. Where the glyphs can't be traced to the text it answers KUS_NO_SLICES, as for the text without glyphs. The
+ * carets of a line are those of its units, less the position of that at its left end. */
+kus_status_t kus_get_carets (kus_font_t *font, size_t end, const size_t *stops, size_t num_stops, kus_caret_t *carets,
+                             size_t carets_room, size_t *count);
 
 #ifdef __cplusplus
 }

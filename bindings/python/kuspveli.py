@@ -19,16 +19,22 @@ NAMES = {
     6: "U1 OutOfOrder", 7: "U2 OutOfRange", 8: "U3 SplitDepth", 9: "Unlawful", 10: "NotUtf8", 12: "S2 TooLong",
     13: "S3 StretchRange", 14: "S4 UnknownSyllableKind", 16: "NoFont", 17: "NoTables", 18: "NoSlices",
     19: "OtherFormat", 20: "F1 Short", 21: "F2 Kind", 22: "F3 Order", 23: "F4 Index", 24: "F5 Missing",
-    25: "F6 TooLarge", 26: "SharedFont", 27: "NoGlyph", 28: "AdvanceRange",
+    25: "F6 TooLarge", 26: "SharedFont", 27: "NoGlyph", 28: "AdvanceRange", 30: "TooManyGlyphs",
+    31: "ClustersOutOfOrder", 32: "InvalidBreaks", 33: "InvalidStops",
 }
 DIRECTIONS = {"": 0, "ltr": 4, "rtl": 5, "ttb": 6, "btt": 7}
 GLOBAL_END = 0xFFFF_FFFF
+# The greatest index.
+SIZE_MOST = 0xFFFF_FFFF_FFFF_FFFF
 # What of a font file is not read (KUS_FONT_WITHOUT_EXTENTS, KUS_FONT_WITHOUT_NAMES).
 WITHOUT_EXTENTS, WITHOUT_NAMES = 1, 2
 # How a text is passed, by what its clusters are: the name of the encoding in the machine's order, and its flag
 # (KUS_FLAG_UTF16, KUS_FLAG_UTF32).
 ORDER = "le" if sys.byteorder == "little" else "be"
 ENCODINGS = {"bytes": ("utf-8", 0), "utf16": (f"utf-16-{ORDER}", 0x10000), "characters": (f"utf-32-{ORDER}", 0x20000)}
+# How many bytes a unit of each has.
+UNIT_SIZES = {"bytes": 1, "utf16": 2, "characters": 4}
+NO_SLICES = 18
 # The faults of font files, and how long the text of one is at most.
 FILE_FAULTS, MOST_OF_A_TEXT = range(20, 26), 64
 # What a tag is made of: printed ASCII characters (OpenType).
@@ -92,6 +98,21 @@ class RawExtents(ctypes.Structure):
     _fields_ = [(name, ctypes.c_int32) for name in ("x_bearing", "y_bearing", "width", "height")]
 
 
+class RawLine(ctypes.Structure):
+    _fields_ = [
+        ("start", ctypes.c_size_t),
+        ("end", ctypes.c_size_t),
+        ("width", ctypes.c_int64),
+        ("first_glyph", ctypes.c_size_t),
+        ("end_glyph", ctypes.c_size_t),
+        ("is_own", ctypes.c_bool),
+    ]
+
+
+class RawCaret(ctypes.Structure):
+    _fields_ = [("index", ctypes.c_size_t), ("position", ctypes.c_int64)]
+
+
 def load(path: Union[str, "os.PathLike[str]"]) -> ctypes.CDLL:
     """The library, with its calls declared."""
     found = ctypes.CDLL(os.fspath(path))
@@ -128,6 +149,10 @@ def load(path: Union[str, "os.PathLike[str]"]) -> ctypes.CDLL:
     declare(found, "kus_font_get_glyph_v_advance", ctypes.c_int32, handle, u32)
     declare(found, "kus_font_get_feature_tags", size, handle, u32, numbers, size)
     declare(found, "kus_font_get_script_tags", size, handle, u32, numbers, size)
+    sizes, i64 = ctypes.POINTER(size), ctypes.c_int64
+    cut = [handle, size, sizes, size, i64, i64, ctypes.POINTER(RawLine), size, sizes]
+    declare(found, "kus_cut_lines", u32, *cut)
+    declare(found, "kus_get_carets", u32, handle, size, sizes, size, ctypes.POINTER(RawCaret), size, sizes)
     return found
 
 
@@ -338,6 +363,24 @@ class LineMetrics(NamedTuple):
     ascender: int
     descender: int
     line_gap: int
+
+
+class Line(NamedTuple):
+    """A line of the last text: from one index of what its clusters count in to another one, without it; its width in font
+    units; and which of the text's glyphs it has, None where it has to be shaped again."""
+
+    start: int
+    end: int
+    width: int
+    glyphs: Optional[range]
+
+
+class Caret(NamedTuple):
+    """A caret: the index before which it stands, of what clusters count in, and its position from the left end of the
+    glyphs, or from the upper one on a vertical line, in font units."""
+
+    index: int  # type: ignore[assignment]
+    position: int
 
 
 class Extents(NamedTuple):
@@ -567,6 +610,8 @@ class Font(Held):
     _reference = staticmethod(LIBRARY.kus_font_reference)
     _advance: Optional[Callable[[int], int]] = None
     _asked: set[int]
+    # What the clusters of the last text count up to, and how many glyphs it has.
+    _end, _count = 0, 0
 
     @overload
     def __init__(
@@ -736,6 +781,7 @@ class Font(Held):
 
     def _shaped(self, raw: RawText, own: bytes, clusters: str) -> Arrays:
         need_stack(SHAPING)
+        self._end, self._count = 0, 0
         room = max(64, len(own))
         infos, positions, count = (RawInfo * room)(), (RawPosition * room)(), ctypes.c_size_t()
         check(LIBRARY.kus_shape(self._handle, raw, infos, room, positions, room, count))
@@ -744,7 +790,10 @@ class Font(Held):
             infos, positions = (RawInfo * room)(), (RawPosition * room)()
             LIBRARY.kus_get_glyphs(self._handle, infos, room, positions, room)
         arrays = arrays_of(infos, positions, count.value, character_indices(own, clusters))
-        return self._shaped(raw, own, clusters) if self._measure(arrays.numbers) else arrays
+        if self._measure(arrays.numbers):
+            return self._shaped(raw, own, clusters)
+        self._end, self._count = len(own) // UNIT_SIZES[clusters], count.value
+        return arrays
 
     def _measure(self, glyphs: Iterable[int]) -> bool:
         """Sets the advances of glyphs that the caller's function was not asked for yet; whether one is another than the
@@ -790,6 +839,38 @@ class Font(Held):
         y = x if y_scale is None else signed(y_scale, "y_scale")
         with self._lock:
             check(LIBRARY.kus_font_set_scale(self._handle, x, y))
+
+    # -- lines and carets of the last text
+
+    def cut_lines(self, breaks: Iterable[int], width: int, first_width: Optional[int] = None) -> list[Line]:
+        """The lines of the last text, which is shaped with Flags.PRODUCE_SAFE_BREAKS. They may end at `breaks`, which rise
+        (those of UAX 14), in what its clusters count in. A line takes what fits the width, in font units, and one piece
+        between breaks at least; the first one what fits `first_width`, for a text that goes on in a line of other ones."""
+        found = list(breaks)
+        first = width if first_width is None else first_width
+        lines, count = (RawLine * (len(found) + 1))(), ctypes.c_size_t()
+        given = (*sizes_of(found, "break"), signed_64(first, "first_width"), signed_64(width, "width"))
+        with self._lock:
+            check(LIBRARY.kus_cut_lines(self._handle, self._end, *given, lines, len(lines), count))
+        return [
+            Line(one.start, one.end, one.width, range(one.first_glyph, one.end_glyph) if one.is_own else None)
+            for one in lines[: count.value]
+        ]
+
+    def carets(self, stops: Iterable[int] = ()) -> list[Caret]:
+        """The carets of the last text, in its order: between clusters and at both ends, and at those of `stops`, which rise,
+        that are inside of clusters (as UAX 29 lets a caret stand), as between the letters of a ligature, whose width they
+        divide evenly. Fault where the glyphs can't be traced to the text."""
+        found, count = list(stops), ctypes.c_size_t()
+        given = sizes_of(found, "stop")
+        with self._lock:
+            carets = (RawCaret * (self._count + len(found) + 1))()
+            status = LIBRARY.kus_get_carets(self._handle, self._end, *given, carets, len(carets), count)
+            if status == NO_SLICES and not self._end:
+                # The text without characters has no glyph to stand beside.
+                return [Caret(0, 0)]
+            check(status)
+        return [Caret(one.index, one.position) for one in carets[: count.value]]
 
     # -- what the font says of itself
 
@@ -859,6 +940,23 @@ class Font(Held):
             tags = (ctypes.c_uint32 * max(room, 1))()
             call(self._handle, tag(table), tags, room)
         return list(map(tag_text, tags[:room]))
+
+
+def sizes_of(indices: list[int], what: str) -> tuple[Any, int]:
+    """Indices as the library takes them, and how many they are."""
+    for index in indices:
+        number(index, what, most=SIZE_MOST)
+    return (ctypes.c_size_t * max(len(indices), 1))(*indices), len(indices)
+
+
+def signed_64(value: int, what: str) -> int:
+    """A number of 64 bits with a sign."""
+    if not isinstance(value, int):
+        raise TypeError(f"{what}: {value!r} is no number")
+    plain = int.__index__(value)
+    if not -(1 << 63) <= plain < 1 << 63:
+        raise ValueError(f"{what}: {plain} is not of 64 bits")
+    return plain
 
 
 def raw_text(

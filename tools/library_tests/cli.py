@@ -148,7 +148,7 @@ def tell_stacks(tested: Tested, tables: Path, font: Path, file: Path) -> int:
         "deep calls": ("{}", json.dumps(called.font), called.text),
     }
     by_file = ["OK"] * 3
-    read, refused = ["OK"] * 3 + by_file + ["OK"] * 2, ["OK", "J1 NotJson", "J1 NotJson", *by_file, "NoFont", "NoFont"]
+    read, refused = ["OK"] * 3 + by_file + ["OK"] * 4, ["OK", "J1 NotJson", "J1 NotJson", *by_file, *["NoFont"] * 4]
     wrong, most = 0, [0, 0]
     for name, texts in files.items():
         paths = [tested.work / f"stack.{at}" for at in range(len(texts))]

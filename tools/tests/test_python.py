@@ -219,6 +219,41 @@ class Answered(unittest.TestCase):
         self.assertEqual([(one.start, one.end) for one in backwards], [(1, 2), (0, 1)])
         self.assertEqual(self.font.shape_slices(""), [])
 
+    def test_lines(self) -> None:
+        """An a of 500 units, a ligature of 520 and a b of 600; indices count what clusters count in."""
+        font, line = self.binding.Font(TABLES, FONT), self.binding.Line
+        self.assertEqual(font.cut_lines([], 1), [])
+        for clusters, at in (("bytes", (0, 4, 6, 7)), ("utf16", (0, 2, 4, 5)), ("characters", (0, 1, 3, 4))):
+            font.shape("\U0001f600fib", clusters=clusters, flags=self.binding.Flags.PRODUCE_SAFE_BREAKS)
+            whole = [line(0, at[2], 520, range(2)), line(at[2], at[3], 600, range(2, 3))]
+            self.assertEqual(font.cut_lines(at[1:3], 600), whole)
+            inside = [line(0, at[2] - 1, 520, None), line(at[2] - 1, at[3], 600, None)]
+            self.assertEqual(font.cut_lines([at[2] - 1, at[2]], 600, first_width=519), inside)
+            rows = [(0, 0), (at[1], 0), (at[2], 520), (at[3], 1120)]
+            self.assertEqual(font.carets(), rows)
+            self.assertEqual(font.carets([at[2] - 1]), [*rows[:2], (at[2] - 1, 260), *rows[2:]])
+        font.shape("ab", direction="rtl")
+        self.assertEqual(font.carets(), [(0, 1100), (1, 600), (2, 0)])
+        font.shape("")
+        self.assertEqual((font.carets(), font.cut_lines([], 9)), ([(0, 0)], []))
+
+    def test_refused_lines(self) -> None:
+        """Indices that don't rise or are past the end of the text, and what are no indices and no widths."""
+        self.font.shape("ab")
+        for breaks in ([0], [1, 1], [2, 1], [3]):
+            with self.assertRaisesRegex(self.binding.Fault, "InvalidBreaks"):
+                self.font.cut_lines(breaks, 9)
+            with self.assertRaisesRegex(self.binding.Fault, "InvalidStops"):
+                self.font.carets(breaks)
+        for breaks, width, fault in (([-1], 9, ValueError), ([1 << 64], 9, ValueError), (["a"], 9, TypeError), ([], 1 << 63, ValueError), ([], 0.5, TypeError)):
+            with self.assertRaises(fault):
+                self.font.cut_lines(breaks, width)
+        with self.binding.Font(TABLES, FONT) as font:
+            pass
+        for call in (font.carets, lambda: font.cut_lines([], 9)):
+            with self.assertRaisesRegex(self.binding.Fault, "NoFont"):
+                call()
+
     def test_segment(self) -> None:
         self.assertEqual((self.font.direction(), self.font.script()), ("", ""))
         self.font.shape("ا")

@@ -40,6 +40,14 @@ pub enum Fault {
     NoGlyph,
     /// An advance is above 65535.
     AdvanceRange,
+    /// The last text has 2^31 glyphs or more.
+    TooManyGlyphs,
+    /// The clusters of the last text's glyphs aren't in order.
+    ClustersOutOfOrder,
+    /// An index at which a line may end isn't after 0 and the one before it, or is past the end of the text.
+    InvalidBreaks,
+    /// The same of an index at which a caret may stand.
+    InvalidStops,
     /// A status that the header does not name.
     Other(u32),
 }
@@ -71,6 +79,10 @@ impl Fault {
             26 => Fault::SharedFont,
             27 => Fault::NoGlyph,
             28 => Fault::AdvanceRange,
+            30 => Fault::TooManyGlyphs,
+            31 => Fault::ClustersOutOfOrder,
+            32 => Fault::InvalidBreaks,
+            33 => Fault::InvalidStops,
             other => Fault::Other(other),
         }
     }
@@ -110,6 +122,10 @@ impl fmt::Display for Fault {
             Fault::SharedFont => "SharedFont",
             Fault::NoGlyph => "NoGlyph",
             Fault::AdvanceRange => "AdvanceRange",
+            Fault::TooManyGlyphs => "TooManyGlyphs",
+            Fault::ClustersOutOfOrder => "ClustersOutOfOrder",
+            Fault::InvalidBreaks => "InvalidBreaks",
+            Fault::InvalidStops => "InvalidStops",
             Fault::Other(status) => return write!(f, "status {status}"),
         })
     }

@@ -341,6 +341,52 @@ impl Font {
         self.handle.with(|font| unsafe { call(font, table, tags.as_mut_ptr(), room) });
         tags.into_iter().map(Tag::from_number).collect()
     }
+
+    /// The lines of the last text, whose clusters count up to `end` (of a `str`, its length): they may end at `breaks`, which
+    /// rise, as those of UAX 14. Each takes what fits `width`, in font units, and one piece between breaks at least; the
+    /// first one what fits `first_width`, for a text that goes on in a line of other ones. Of a text that was shaped with
+    /// `Flags::PRODUCE_SAFE_BREAKS` a line has its own glyphs, or has to be shaped again.
+    pub fn cut_lines(
+        &self,
+        end: usize,
+        breaks: &[usize],
+        first_width: i64,
+        width: i64,
+    ) -> Result<Vec<Line>, Fault> {
+        let mut lines = vec![Line::default(); breaks.len() + 1];
+        let (mut count, room) = (0, lines.len());
+        Fault::check(self.handle.with(|font| unsafe {
+            kus_cut_lines(
+                font,
+                end,
+                breaks.as_ptr(),
+                breaks.len(),
+                first_width,
+                width,
+                lines.as_mut_ptr(),
+                room,
+                &mut count,
+            )
+        }))?;
+        lines.truncate(count);
+        Ok(lines)
+    }
+
+    /// The carets of the last text, whose clusters count up to `end`, in its order: between clusters and at both ends, and at
+    /// those of `stops`, which rise, that are inside of clusters, as between the letters of a ligature, whose width they
+    /// divide evenly. The text without characters has one caret.
+    pub fn carets(&self, end: usize, stops: &[usize]) -> Result<Vec<Caret>, Fault> {
+        if end == 0 && self.count == 0 {
+            return Ok(vec![Caret::default()]);
+        }
+        let mut carets = vec![Caret::default(); self.count + stops.len() + 1];
+        let (mut count, room) = (0, carets.len());
+        Fault::check(self.handle.with(|font| unsafe {
+            kus_get_carets(font, end, stops.as_ptr(), stops.len(), carets.as_mut_ptr(), room, &mut count)
+        }))?;
+        carets.truncate(count);
+        Ok(carets)
+    }
 }
 
 impl fmt::Debug for Font {

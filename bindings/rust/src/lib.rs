@@ -18,7 +18,7 @@ mod tables;
 
 pub use fault::Fault;
 pub use font::{Font, Glyphs, Measures, OwnedGlyphs, Table, count_fonts, describe_fault};
-pub use raw::{GlyphExtents, GlyphInfo, GlyphPosition, LineMetrics, Slice};
+pub use raw::{Caret, GlyphExtents, GlyphInfo, GlyphPosition, Line, LineMetrics, Slice};
 pub use settings::{Character, ClusterLevel, Direction, Feature, Flags, NoFeature, NoTag, Tag, Text, Units};
 pub use tables::Tables;
 

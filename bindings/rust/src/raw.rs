@@ -102,6 +102,29 @@ pub struct Slice {
     pub end: usize,
 }
 
+/// A line of a text: its units, without their end, its width in font units, and the text's glyphs of these units where
+/// `is_own`.
+#[repr(C)]
+#[derive(Clone, Copy, PartialEq, Eq, Debug, Default)]
+pub struct Line {
+    pub start: usize,
+    pub end: usize,
+    pub width: i64,
+    pub first_glyph: usize,
+    pub end_glyph: usize,
+    /// Whether the glyphs are those that shaping the line alone gives; else it has to be shaped again.
+    pub is_own: bool,
+}
+
+/// A caret: the index of the unit before which it stands, and its position from the left end of the text's glyphs, or from
+/// the upper one on a vertical line, in font units.
+#[repr(C)]
+#[derive(Clone, Copy, PartialEq, Eq, Debug, Default)]
+pub struct Caret {
+    pub index: usize,
+    pub position: i64,
+}
+
 #[repr(C)]
 pub(crate) struct RawText {
     pub text: *const u8,
@@ -203,4 +226,24 @@ extern "C" {
     pub(crate) fn kus_font_get_glyph_v_advance(font: *mut Handle, glyph: u32) -> i32;
     pub(crate) fn kus_font_get_feature_tags(font: *mut Handle, table: u32, tags: *mut u32, tags_room: usize) -> usize;
     pub(crate) fn kus_font_get_script_tags(font: *mut Handle, table: u32, tags: *mut u32, tags_room: usize) -> usize;
+    pub(crate) fn kus_cut_lines(
+        font: *mut Handle,
+        end: usize,
+        breaks: *const usize,
+        num_breaks: usize,
+        first_width: i64,
+        width: i64,
+        lines: *mut Line,
+        lines_room: usize,
+        count: *mut usize,
+    ) -> u32;
+    pub(crate) fn kus_get_carets(
+        font: *mut Handle,
+        end: usize,
+        stops: *const usize,
+        num_stops: usize,
+        carets: *mut Caret,
+        carets_room: usize,
+        count: *mut usize,
+    ) -> u32;
 }

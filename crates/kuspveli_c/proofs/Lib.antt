@@ -2,3 +2,4 @@ mod Slices
 mod Results
 mod Told
 mod SetInHandles
+mod LinesAndCarets

@@ -3,6 +3,7 @@
 
 pub mod calls;
 pub mod faults;
+pub mod lines;
 pub mod names;
 pub mod queries;
 pub mod settings;

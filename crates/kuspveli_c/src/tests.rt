@@ -3,6 +3,7 @@
 //! A test owns handles and asserts once; what it asserts is found by a function that owns nothing and answers true or false,
 //! or fails for want of memory.
 mod files;
+mod lines;
 mod settings;
 mod texts;
 

@@ -220,6 +220,64 @@ try_slices (kus_font_t *font, const kus_text_t *text)
   free_block (slices, room * sizeof *slices);
 }
 
+/* What clusters of a text count up to; those of the caller's own are below 40 or as many as there are characters. */
+static size_t
+end_of (const kus_text_t *text)
+{
+  if (text->flags & KUS_FLAG_CHARACTERS) return MOST_CHARACTERS;
+  if (text->flags & KUS_FLAG_UTF32) return text->text_length / 4;
+  return text->flags & KUS_FLAG_UTF16 ? text->text_length / 2 : text->text_length;
+}
+
+/* Indices that mostly rise. */
+static size_t *
+some_indices (size_t count)
+{
+  size_t *indices = block (count * sizeof *indices), last = 0;
+  for (size_t i = 0; i < count; i++)
+    indices[i] = last = once_in (60) ? (size_t) drawn () : last + (once_in (30) ? 0 : 1 + below (4));
+  return indices;
+}
+
+/* Lines join from the text's beginning to its end, and each of glyphs has some. */
+static void
+try_lines (kus_font_t *font, size_t end)
+{
+  size_t num_breaks = below (8), room = below (MOST_ROOM), count = 1, last = 0;
+  size_t *breaks = some_indices (num_breaks);
+  kus_line_t *lines = block (room * sizeof *lines);
+  int64_t first = once_in (9) ? (int64_t) drawn () : below (4000), width = once_in (9) ? (int64_t) drawn () : below (4000);
+  kus_status_t status = kus_cut_lines (font, end, breaks, num_breaks, first, width, lines, room, &count);
+  note (status);
+  if (status != KUS_OK && count) fail ("lines", "of a fault");
+  for (size_t i = 0; i < less (room, count); i++) {
+    if (lines[i].start != last || lines[i].end <= last) fail ("lines", "that don't join");
+    if (lines[i].first_glyph > lines[i].end_glyph) fail ("a line's glyphs", "turned");
+    last = lines[i].end;
+  }
+  if (status == KUS_OK && count <= room && last != end) fail ("lines", "that don't end");
+  free_block (breaks, num_breaks * sizeof *breaks);
+  free_block (lines, room * sizeof *lines);
+}
+
+/* Carets rise from the text's beginning to its end. */
+static void
+try_carets (kus_font_t *font, size_t end)
+{
+  size_t num_stops = below (8), room = below (MOST_ROOM), count = 1;
+  size_t *stops = some_indices (num_stops);
+  kus_caret_t *carets = block (room * sizeof *carets);
+  kus_status_t status = kus_get_carets (font, end, stops, num_stops, carets, room, &count);
+  note (status);
+  if (status != KUS_OK && count) fail ("carets", "of a fault");
+  read_all (carets, less (room, count) * sizeof *carets);
+  for (size_t i = 0; i < less (room, count); i++)
+    if (i ? carets[i].index <= carets[i - 1].index : carets[i].index) fail ("carets", "that don't rise");
+  if (count && count <= room && carets[count - 1].index != end) fail ("carets", "that don't end");
+  free_block (stops, num_stops * sizeof *stops);
+  free_block (carets, room * sizeof *carets);
+}
+
 /* Glyphs with rooms of two lengths; how many there are. */
 static size_t
 try_glyphs (kus_font_t *font, const kus_text_t *text)
@@ -250,6 +308,9 @@ call_shape (void)
   size_t count = try_glyphs (font, &text);
   if (once_in (3) && try_glyphs (font, NULL) != count) fail ("glyphs", "of another number");
   if (once_in (3)) try_slices (font, &text);
+  size_t end = once_in (20) ? below (2 * MOST_CHARACTERS) : end_of (&text);
+  if (once_in (3)) try_lines (font, end);
+  if (once_in (3)) try_carets (font, end);
   kus_get_direction (font);
   kus_get_script (font);
   free_text (&text);

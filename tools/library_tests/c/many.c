@@ -122,6 +122,44 @@ refuse_each (kus_font_t *font)
   }
 }
 
+static int
+same_lines (const kus_line_t *a, const kus_line_t *b, size_t count)
+{
+  for (size_t k = 0; k < count; k++)
+    if (a[k].start != b[k].start || a[k].end != b[k].end || a[k].width != b[k].width || a[k].is_own != b[k].is_own
+        || a[k].first_glyph != b[k].first_glyph || a[k].end_glyph != b[k].end_glyph)
+      return 0;
+  return 1;
+}
+
+/* The same of lines and carets of a text that was shaped: a call that is refused writes nothing. */
+static int
+refuse_lines (kus_font_t *font)
+{
+  static result_t made;
+  static kus_line_t lines[2][MOST];
+  static kus_caret_t carets[2][MOST];
+  size_t length = strlen (words[0]), breaks[] = { length }, counts[2];
+  int reached = 1, at = 0;
+  if (shape (font, words[0], &made) != KUS_OK) fail ("not shaped", words[0]);
+  if (kus_cut_lines (font, length, breaks, 1, 1, 1, lines[0], MOST, &counts[0]) != KUS_OK) fail ("no lines", words[0]);
+  if (kus_get_carets (font, length, breaks, 1, carets[0], MOST, &counts[1]) != KUS_OK) fail ("no carets", words[0]);
+  while (reached) {
+    size_t cut, stand;
+    refused = ++at;
+    kus_status_t status = kus_cut_lines (font, length, breaks, 1, 1, 1, lines[1], MOST, &cut);
+    kus_status_t other = kus_get_carets (font, length, breaks, 1, carets[1], MOST, &stand);
+    reached = !refused;
+    refused = 0;
+    if (status == KUS_OUT_OF_MEMORY ? cut : status != KUS_OK || cut != counts[0] || !same_lines (lines[0], lines[1], cut))
+      fail ("refused memory", "of lines");
+    if (other == KUS_OUT_OF_MEMORY ? stand : other != KUS_OK || stand != counts[1] || memcmp (carets[0], carets[1], stand * sizeof **carets))
+      fail ("refused memory", "of carets");
+    if (reached ? status == KUS_OK && other == KUS_OK : status != KUS_OK || other != KUS_OK) fail ("refused memory", "and lines or carets");
+  }
+  return at - 1;
+}
+
 /* Each allocation of the call that reads a font file is refused in turn: the call says so and the handle has the font
  * that it had, or none; or it does without. */
 static int
@@ -177,6 +215,7 @@ main (int count, char **arguments)
   for (int k = 0; k < THREADS; k++) pthread_join (threads[k], NULL);
   if (live != steady) fail ("calls leave memory", "");
   int refusals = refuse_each (&font);
+  refusals += refuse_lines (&font);
   if (live != steady) fail ("refused calls leave memory", "");
   kus_font_destroy (&font);
   if (live != before) fail ("fonts leave memory", "");

@@ -19,6 +19,9 @@ static kus_status_t status;
 static kus_glyph_info_t infos[MOST];
 static kus_glyph_position_t positions[MOST];
 static kus_slice_t slices[MOST];
+static kus_line_t lines[MOST];
+static kus_caret_t carets[MOST];
+static size_t middle[1];
 
 static void *
 create_tables (void *none)
@@ -79,6 +82,22 @@ slice (void *none)
   return none;
 }
 
+static void *
+cut (void *none)
+{
+  size_t count;
+  status = kus_cut_lines (&font, own.length, middle, middle[0] > 0, 1, 1, lines, MOST, &count);
+  return none;
+}
+
+static void *
+stand (void *none)
+{
+  size_t count;
+  status = kus_get_carets (&font, own.length, middle, middle[0] > 0, carets, MOST, &count);
+  return none;
+}
+
 /* How many bytes of a stack of that size a call writes. */
 static size_t
 taken (void *(*call) (void *), size_t size)
@@ -126,6 +145,9 @@ main (int count, char **words)
   for (size_t k = 0; k < sizeof readers / sizeof *readers; k++) reading = greater (reading, run (readers[k], READING));
   size_t other = run (shape, OTHER);
   other = greater (other, run (slice, OTHER));
+  middle[0] = own.length / 2;
+  other = greater (other, run (cut, OTHER));
+  other = greater (other, run (stand, OTHER));
   printf ("%zu %zu\n", reading, other);
   kus_font_destroy (&font);
   kus_font_destroy (&whole);
