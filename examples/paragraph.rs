@@ -3,20 +3,22 @@
 //!
 //!     cd bindings/rust; cargo run --offline --release --example paragraph -- ..
 //!
-//! A line may end after a space, where the slice after it is not flagged as unsafe to break: then neither half has to be
-//! shaped again.
+//! Glyphs have the advances to which FreeType hints them: its library is opened as the program runs. Each part of the
+//! paragraph is of one script, and goes on in the line of the part before it. A line may end after a space (UAX 14 has
+//! more). Where a line is not the part's own it is shaped again. Carets are drawn as small strokes below the line: in words
+//! of Latin also between the letters of a ligature. The lines are printed.
 
-use kuspveli::{Direction, Font, GlyphInfo, GlyphPosition, Slice, Tables, Text};
+use kuspveli::{Caret, Direction, Fault, Flags, Font, GlyphInfo, GlyphPosition, Glyphs, Line, Measures, Tables, Tag, Text};
 use std::error::Error;
+use std::ffi::{CStr, CString, c_char, c_int, c_long, c_uint, c_void};
 use std::fmt::Write;
-use std::{env, fs};
+use std::{env, fs, mem, ptr};
 
-const UNSAFE_TO_BREAK: u32 = 1;
 const SIZE: f64 = 30.0;
 const WIDTH: f64 = 640.0;
 const MARGIN: f64 = 24.0;
 const LEADING: f64 = 54.0;
-/// Each part of the paragraph is of one script: its font's number, and its text.
+/// Each part of the paragraph: its font's number, and its text.
 const PARTS: [(usize, &str); 5] = [
     (0, "Kuspveli sets the words of an office, "),
     (1, "السلام عليكم ورحمة الله وبركاته،"),
@@ -25,113 +27,164 @@ const PARTS: [(usize, &str); 5] = [
     (0, "in lines that end where a break is safe."),
 ];
 
-/// A part with its glyphs, and its slices in the order of the text.
-struct Part {
-    font: usize,
+unsafe extern "C" {
+    fn dlopen(name: *const c_char, flags: c_int) -> *mut c_void;
+    fn dlsym(library: *mut c_void, name: *const c_char) -> *mut c_void;
+}
+
+type InitFreeType = unsafe extern "C" fn(*mut *mut c_void) -> c_int;
+type NewFace = unsafe extern "C" fn(*mut c_void, *const c_char, c_long, *mut *mut c_void) -> c_int;
+type SetPixelSizes = unsafe extern "C" fn(*mut c_void, c_uint, c_uint) -> c_int;
+type GetAdvance = unsafe extern "C" fn(*mut c_void, c_uint, i32, *mut c_long) -> c_int;
+
+/// A call of FreeType by its name.
+unsafe fn freetype(name: &CStr) -> Result<*mut c_void, String> {
+    // RTLD_NOW
+    let library = unsafe { dlopen(c"libfreetype.so.6".as_ptr(), 2) };
+    if library.is_null() {
+        return Err("no libfreetype.so.6".into());
+    }
+    let call = unsafe { dlsym(library, name.as_ptr()) };
+    if call.is_null() { Err(format!("no {}", name.to_string_lossy())) } else { Ok(call) }
+}
+
+/// A font, and a client's advances for it.
+struct Face {
+    font: Font,
+    measures: Measures<Box<dyn FnMut(u32) -> u32>>,
+}
+
+impl Face {
+    /// A font whose glyphs have the advances in whole pixels to which FreeType hints them at this size.
+    fn open(name: &str, bytes: &[u8], tables: &Tables) -> Result<Face, Box<dyn Error>> {
+        let font = Font::from_slice_with_tables(tables, bytes, 0)?;
+        let (mut library, mut hinted) = (ptr::null_mut(), ptr::null_mut());
+        let file = CString::new(name)?;
+        // the types are those of freetype/freetype.h and ftadvanc.h
+        let (failed, get_advance) = unsafe {
+            let init: InitFreeType = mem::transmute(freetype(c"FT_Init_FreeType")?);
+            let new_face: NewFace = mem::transmute(freetype(c"FT_New_Face")?);
+            let set_sizes: SetPixelSizes = mem::transmute(freetype(c"FT_Set_Pixel_Sizes")?);
+            let failed = init(&mut library) != 0
+                || new_face(library, file.as_ptr(), 0, &mut hinted) != 0
+                || set_sizes(hinted, 0, SIZE as c_uint) != 0;
+            (failed, mem::transmute::<*mut c_void, GetAdvance>(freetype(c"FT_Get_Advance")?))
+        };
+        if failed {
+            return Err(format!("{name}: FreeType doesn't open it").into());
+        }
+        let (size, upem) = (SIZE as i64, i64::from(font.upem()));
+        let advance = move |glyph| {
+            let mut pixels = 0; // 16.16
+            unsafe { get_advance(hinted, glyph, 0, &mut pixels) };
+            ((pixels as i64 * upem + size * 32768) / (size * 65536)) as u32
+        };
+        Ok(Face { font, measures: Measures::new(Box::new(advance)) })
+    }
+
+    fn shape(&mut self, text: &Text) -> Result<Glyphs<'_>, Fault> {
+        self.font.shape_measured(text, &mut self.measures)
+    }
+}
+
+/// A part that was shaped as a whole, with its lines and its carets.
+struct Part<'a> {
+    text: &'a str,
+    direction: Direction,
+    script: Option<Tag>,
+    scale: f64,
     infos: Vec<GlyphInfo>,
     positions: Vec<GlyphPosition>,
-    slices: Vec<Slice>,
-    scale: f64,
-    is_backwards: bool,
+    lines: Vec<Line>,
+    carets: Vec<Caret>,
 }
 
-/// Slices of a part between which no line ends, without the last one.
-struct Piece {
-    part: usize,
-    first: usize,
-    end: usize,
-    width: f64,
-    is_space: bool,
+/// Where the next glyph is drawn.
+struct Pen {
+    x: f64,
+    line: usize,
+    svg: String,
 }
 
-fn shape(font: &mut Font, number: usize, text: &str) -> Result<Part, Box<dyn Error>> {
-    let glyphs = font.shape(&Text::new(text))?;
+/// Shapes a part, and cuts it into lines, of which the first is to fit what is left of a line.
+fn cut<'a>(text: &'a str, face: &mut Face, left: f64) -> Result<Part<'a>, Box<dyn Error>> {
+    let safe = Text { flags: Flags::PRODUCE_SAFE_BREAKS, ..Text::new(text) };
+    let glyphs = face.shape(&safe)?;
     let (infos, positions) = (glyphs.infos.to_vec(), glyphs.positions.to_vec());
-    let mut slices = font.slices(text)?;
-    slices.sort_by_key(|slice| slice.start);
-    Ok(Part {
-        font: number,
-        infos,
-        positions,
-        slices,
-        scale: SIZE / f64::from(font.upem()),
-        is_backwards: font.direction() == Direction::RightToLeft,
-    })
+    let font = &mut face.font;
+    let (direction, script, scale) = (font.direction(), font.script(), SIZE / f64::from(font.upem()));
+    let breaks: Vec<usize> = text.match_indices(' ').map(|(at, space)| at + space.len()).collect();
+    // each letter of Latin is a grapheme (UAX 29)
+    let letters = text.char_indices().skip(1).map(|(at, _)| at);
+    let stops: Vec<usize> = if script == Some(Tag::new(b"Latn")) { letters.collect() } else { Vec::new() };
+    let (first, width) = ((left / scale) as i64, ((WIDTH - 2.0 * MARGIN) / scale) as i64);
+    let lines = font.cut_lines(text.len(), &breaks, first, width)?;
+    let carets = font.carets(text.len(), &stops)?;
+    Ok(Part { text, direction, script, scale, infos, positions, lines, carets })
 }
 
-/// The pieces of a part, in the order of the text.
-fn pieces_of(number: usize, part: &Part, text: &str) -> Vec<Piece> {
-    let mut pieces = Vec::new();
-    let (mut first, mut units) = (0, 0);
-    for (at, slice) in part.slices.iter().enumerate() {
-        units += (slice.first_glyph..slice.end_glyph).map(|glyph| part.positions[glyph].x_advance).sum::<i32>();
-        let is_space = &text[slice.start..slice.end] == " ";
-        let may_end = match part.slices.get(at + 1) {
-            None => true,
-            Some(next) => is_space && part.infos[next.first_glyph].mask & UNSAFE_TO_BREAK == 0,
-        };
-        if may_end {
-            pieces.push(Piece {
-                part: number,
-                first,
-                end: at + 1,
-                width: f64::from(units) * part.scale,
-                is_space: is_space && first == at,
-            });
-            (first, units) = (at + 1, 0);
+/// Draws glyphs of a part; the pen is after them then.
+fn draw_glyphs(pen: &mut Pen, part: &Part, infos: &[GlyphInfo], positions: &[GlyphPosition], outlines: &Outlines) -> Result<(), Box<dyn Error>> {
+    let y = LEADING * (pen.line + 1) as f64 - 8.0;
+    for (info, at) in infos.iter().zip(positions) {
+        let place = (pen.x + f64::from(at.x_offset) * part.scale, y - f64::from(at.y_offset) * part.scale);
+        let path = outlines.path(info.codepoint as usize, &|u, v| (place.0 + u * part.scale, place.1 - v * part.scale));
+        let path = path.ok_or("a font's table glyf is not whole")?;
+        if !path.is_empty() {
+            writeln!(pen.svg, "<path d=\"{path}\"/>")?;
         }
+        pen.x += f64::from(at.x_advance) * part.scale;
     }
-    pieces
+    Ok(())
 }
 
-/// The pieces in lines, each as full as it may be; none begins with a space.
-fn lines_of(pieces: Vec<Piece>) -> Vec<Vec<Piece>> {
-    let mut lines: Vec<Vec<Piece>> = vec![Vec::new()];
-    let mut width = 0.0;
-    for piece in pieces {
-        if width > 0.0 && width + piece.width > WIDTH - 2.0 * MARGIN {
-            lines.push(Vec::new());
-            width = 0.0;
-        }
-        if width == 0.0 && piece.is_space {
-            continue;
-        }
-        width += piece.width;
-        lines.last_mut().expect("there is a line").push(piece);
+/// Draws the carets of a line of a part whose left end is at the pen.
+fn draw_carets(pen: &mut Pen, part: &Part, line: &Line) -> Result<(), Box<dyn Error>> {
+    let y = LEADING * (pen.line + 1) as f64 - 2.0;
+    let own = part.carets.iter().filter(|caret| (line.start..=line.end).contains(&caret.index));
+    let left = own.clone().map(|caret| caret.position).min().unwrap_or(0);
+    for caret in own {
+        let x = pen.x + (caret.position - left) as f64 * part.scale;
+        writeln!(pen.svg, "<path stroke=\"#c00\" d=\"M{x:.2} {y:.2}v5\"/>")?;
     }
-    lines
+    Ok(())
 }
 
-/// The slices of a line as they are drawn: those of a script that runs from right to left are turned round.
-fn drawn_slices<'a>(line: &[Piece], parts: &'a [Part]) -> Vec<(&'a Part, &'a Slice)> {
-    let mut drawn = Vec::new();
-    for pieces in line.chunk_by(|one, other| one.part == other.part) {
-        let part = &parts[pieces[0].part];
-        let slices = &part.slices[pieces[0].first..pieces[pieces.len() - 1].end];
-        if part.is_backwards {
-            drawn.extend(slices.iter().rev().map(|slice| (part, slice)));
-        } else {
-            drawn.extend(slices.iter().map(|slice| (part, slice)));
-        }
+/// Draws a line of a part: its own glyphs, or what shaping it again gives between what is before it and after it.
+fn draw_line(pen: &mut Pen, part: &Part, line: &Line, face: &mut Face, outlines: &Outlines) -> Result<(), Box<dyn Error>> {
+    if line.is_own {
+        let own = line.first_glyph..line.end_glyph;
+        draw_carets(pen, part, line)?;
+        return draw_glyphs(pen, part, &part.infos[own.clone()], &part.positions[own], outlines);
     }
-    drawn
+    let text = Text {
+        before: &part.text[..line.start],
+        after: &part.text[line.end..],
+        direction: part.direction,
+        script: part.script,
+        ..Text::new(&part.text[line.start..line.end])
+    };
+    let glyphs = face.shape(&text)?;
+    draw_glyphs(pen, part, glyphs.infos, glyphs.positions, outlines)
 }
 
-fn draw(svg: &mut String, line: &[Piece], parts: &[Part], outlines: &[Outlines], y: f64) -> Result<(), Box<dyn Error>> {
-    let mut x = MARGIN;
-    for (part, slice) in drawn_slices(line, parts) {
-        for glyph in slice.first_glyph..slice.end_glyph {
-            let at = &part.positions[glyph];
-            let place = (x + f64::from(at.x_offset) * part.scale, y - f64::from(at.y_offset) * part.scale);
-            let path = outlines[part.font].path(part.infos[glyph].codepoint as usize, &|u, v| {
-                (place.0 + u * part.scale, place.1 - v * part.scale)
-            });
-            let path = path.ok_or("a font's table glyf is not whole")?;
-            if !path.is_empty() {
-                writeln!(svg, "<path d=\"{path}\"/>")?;
-            }
-            x += f64::from(at.x_advance) * part.scale;
+/// Sets a part after those before it, in a new line where not even its first piece fits the one that is open.
+fn set_part(pen: &mut Pen, text: &str, face: &mut Face, outlines: &Outlines) -> Result<(), Box<dyn Error>> {
+    let left = WIDTH - MARGIN - pen.x;
+    let mut part = cut(text, face, left)?;
+    let is_wider = part.lines.first().is_some_and(|line| line.width as f64 * part.scale > left);
+    if pen.x > MARGIN && is_wider {
+        (pen.x, pen.line) = (MARGIN, pen.line + 1);
+        // no line begins with a space
+        part = cut(text.strip_prefix(' ').unwrap_or(text), face, WIDTH - 2.0 * MARGIN)?;
+    }
+    for (at, line) in part.lines.iter().enumerate() {
+        if at > 0 {
+            (pen.x, pen.line) = (MARGIN, pen.line + 1);
         }
+        let again = if line.is_own { "" } else { ", shaped again" };
+        println!("{}: {} to {}, {} units{again}", pen.line, line.start, line.end, line.width);
+        draw_line(pen, &part, line, face, outlines)?;
     }
     Ok(())
 }
@@ -316,28 +369,23 @@ fn main() -> Result<(), Box<dyn Error>> {
         return Err("paragraph SVG LATIN ARABIC DEVANAGARI".into());
     };
     let tables = Tables::library()?;
-    let (mut fonts, mut outlines) = (Vec::new(), Vec::new());
+    let (mut faces, mut outlines) = (Vec::new(), Vec::new());
     for file in files {
         let bytes = fs::read(file)?;
-        fonts.push(Font::from_slice_with_tables(&tables, &bytes, 0)?);
+        faces.push(Face::open(file, &bytes, &tables)?);
         outlines.push(Outlines::new(bytes).ok_or_else(|| format!("{file}: no outlines"))?);
     }
-    if fonts.len() != 3 {
+    if faces.len() != 3 {
         return Err("three font files are wanted".into());
     }
-    let (mut parts, mut pieces) = (Vec::new(), Vec::new());
-    for (number, (font, text)) in PARTS.into_iter().enumerate() {
-        let part = shape(&mut fonts[font], font, text)?;
-        pieces.extend(pieces_of(number, &part, text));
-        parts.push(part);
+    let mut pen = Pen { x: MARGIN, line: 0, svg: String::new() };
+    for (number, text) in PARTS {
+        set_part(&mut pen, text, &mut faces[number], &outlines[number])?;
     }
-    let lines = lines_of(pieces);
-    let height = MARGIN + LEADING * lines.len() as f64;
+    let height = MARGIN + LEADING * (pen.line + 1) as f64;
     let mut svg = format!("<svg xmlns=\"http://www.w3.org/2000/svg\" width=\"{WIDTH}\" height=\"{height}\">\n");
     svg += "<rect width=\"100%\" height=\"100%\" fill=\"white\"/>\n";
-    for (at, line) in lines.iter().enumerate() {
-        draw(&mut svg, line, &parts, &outlines, LEADING * (at + 1) as f64 - 8.0)?;
-    }
+    svg += &pen.svg;
     svg += "</svg>\n";
     Ok(fs::write(svg_file, svg)?)
 }
