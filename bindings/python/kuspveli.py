@@ -452,13 +452,14 @@ def number(value: int, what: str, most: int = 0xFFFF_FFFF) -> int:
     return plain
 
 
-def signed(value: int, what: str) -> int:
-    """A number of 32 bits with a sign."""
+def signed(value: int, what: str, bits: int = 32) -> int:
+    """A number of some bits with a sign."""
     if not isinstance(value, int):
         raise TypeError(f"{what}: {value!r} is no number")
     plain = int.__index__(value)
-    if not -(1 << 31) <= plain < 1 << 31:
-        raise ValueError(f"{what}: {plain} is not from -2^31 to 2^31 - 1")
+    most = (1 << bits - 1) - 1
+    if not -most - 1 <= plain <= most:
+        raise ValueError(f"{what}: {plain} is not from {-most - 1} to {most}")
     return plain
 
 
@@ -849,7 +850,7 @@ class Font(Held):
         found = list(breaks)
         first = width if first_width is None else first_width
         lines, count = (RawLine * (len(found) + 1))(), ctypes.c_size_t()
-        given = (*sizes_of(found, "break"), signed_64(first, "first_width"), signed_64(width, "width"))
+        given = (*sizes_of(found, "break"), signed(first, "first_width", bits=64), signed(width, "width", bits=64))
         with self._lock:
             check(LIBRARY.kus_cut_lines(self._handle, self._end, *given, lines, len(lines), count))
         return [
@@ -947,16 +948,6 @@ def sizes_of(indices: list[int], what: str) -> tuple[Any, int]:
     for index in indices:
         number(index, what, most=SIZE_MOST)
     return (ctypes.c_size_t * max(len(indices), 1))(*indices), len(indices)
-
-
-def signed_64(value: int, what: str) -> int:
-    """A number of 64 bits with a sign."""
-    if not isinstance(value, int):
-        raise TypeError(f"{what}: {value!r} is no number")
-    plain = int.__index__(value)
-    if not -(1 << 63) <= plain < 1 << 63:
-        raise ValueError(f"{what}: {plain} is not of 64 bits")
-    return plain
 
 
 def raw_text(
