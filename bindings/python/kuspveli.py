@@ -848,9 +848,10 @@ class Font(Held):
         (those of UAX 14), in what its clusters count in. A line takes what fits the width, in font units, and one piece
         between breaks at least; the first one what fits `first_width`, for a text that goes on in a line of other ones."""
         found = list(breaks)
-        first = width if first_width is None else first_width
+        rest = signed(width, "width", bits=64)
+        first = rest if first_width is None else signed(first_width, "first_width", bits=64)
         lines, count = (RawLine * (len(found) + 1))(), ctypes.c_size_t()
-        given = (*sizes_of(found, "break"), signed(first, "first_width", bits=64), signed(width, "width", bits=64))
+        given = (*sizes_of(found, "break"), first, rest)
         with self._lock:
             check(LIBRARY.kus_cut_lines(self._handle, self._end, *given, lines, len(lines), count))
         return [
