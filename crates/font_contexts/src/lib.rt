@@ -6,6 +6,7 @@ pub mod arrays;
 pub mod classes;
 pub mod contexts;
 pub mod coverages;
+pub mod few;
 pub mod rules;
 pub mod sets;
 

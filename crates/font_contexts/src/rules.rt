@@ -1,9 +1,12 @@
 //! Rules by glyphs and by classes (OpenType, chapter 2, sequence rule and chained sequence rule tables).
-ghost use Rattle.std.specs.Prelude.{◌≡◌, ◌≢◌, ◌≤◌, ◌+◌, ◌*◌, ◌++◌, [], ◌∷◌, IfOk, IfErr, OnOk, Ok, Err, length};
+ghost use Rattle.std.specs.Prelude.{◌≡◌, ◌≢◌, ◌≤◌, ◌<◌, ◌+◌, ◌*◌, ◌++◌, [], ◌∷◌, true, IfOk, IfErr, OnOk, Ok, Err, length};
 ghost use Rattle.font_bytes.specs.declared.fault.TableFault.{TableFault};
+ghost use Rattle.layout_tables.specs.ItemRules.{short_rule};
 ghost use Rattle.font_contexts.specs.Rules.{empty_rule, known_records, lookup_record, lookup_records, rule_at, rule_of, words_of};
 
 use crate::arrays::{ElementArray, RuleArrays, arrays_at, element_count};
+use crate::few::{few_after, few_items, few_records};
+use arrayvec::ArrayVec;
 use font_bytes::fault::TableFault;
 use font_bytes::room::Room;
 use font_bytes::words::word;
@@ -11,10 +14,11 @@ use font_common::offsets::TableReader;
 use font_common::words::{push_words, read_words};
 use layout_common::array::Array;
 use layout_tables::context::{SequenceLookupRecord, SequenceRule};
+use layout_tables::item_rule::{CONTEXT_INSIDE, INPUT_INSIDE, ItemRule, RECORDS_INSIDE, ShortRule};
 use std::alloc::Global;
 
 /// The lookup record at an offset.
-fn lookup_record(table: &[u8], at: usize) -> SequenceLookupRecord
+pub fn lookup_record(table: &[u8], at: usize) -> SequenceLookupRecord
     requires { at + 4 ≤ length table.now }
     ensures { result ≡ lookup_record table.now at }
 {
@@ -84,8 +88,8 @@ fn read_input(
     Ok(Array::new(items))
 }
 
-/// Reads a rule by its arrays.
-fn read_rule_of(
+/// Reads a rule of any length by its arrays.
+fn read_long_rule(
     alloc: Global,
     table: &[u8],
     arrays: RuleArrays,
@@ -111,6 +115,57 @@ fn read_rule_of(
     })
 }
 
+/// Whether the arrays are those of a short rule, whose input begins with an item that its table leaves out.
+fn is_short(arrays: RuleArrays) -> bool
+    ensures backtrack { result ≡ true → arrays.backtrack.count ≤ 4 }
+    ensures input { result ≡ true → arrays.input.count < 8 }
+    ensures lookahead { result ≡ true → arrays.lookahead.count ≤ 4 }
+    ensures records { result ≡ true → arrays.records.count ≤ 4 }
+{
+    arrays.backtrack.count <= CONTEXT_INSIDE
+        && arrays.input.count < INPUT_INSIDE
+        && arrays.lookahead.count <= CONTEXT_INSIDE
+        && arrays.records.count <= RECORDS_INSIDE
+}
+
+/// A short rule by its arrays.
+fn short_rule_of(table: &[u8], arrays: RuleArrays, first: u16, lookup_count: usize) -> ShortRule
+    requires backtrack { (arrays.backtrack.count ≤ 4) × (arrays.backtrack.at + 2 * arrays.backtrack.count ≤ length table.now) }
+    requires input { (arrays.input.count < 8) × (arrays.input.at + 2 * arrays.input.count ≤ length table.now) }
+    requires lookahead { (arrays.lookahead.count ≤ 4) × (arrays.lookahead.at + 2 * arrays.lookahead.count ≤ length table.now) }
+    requires records { (arrays.records.count ≤ 4) × (arrays.records.at + 4 * arrays.records.count ≤ length table.now) }
+    ensures { short_rule result ≡ rule_of lookup_count first table.now arrays }
+{
+    ShortRule {
+        backtrack: few_items(table, arrays.backtrack),
+        input: few_after(first, table, arrays.input),
+        lookahead: few_items(table, arrays.lookahead),
+        records: few_records(table, arrays.records, lookup_count),
+    }
+}
+
+/// Reads a rule by its arrays.
+fn read_rule_of(
+    alloc: Global,
+    table: &[u8],
+    arrays: RuleArrays,
+    first: u16,
+    lookup_count: usize,
+) -> Result<ItemRule, TableFault>
+    requires backtrack { arrays.backtrack.at + 2 * arrays.backtrack.count ≤ length table.now }
+    requires input { arrays.input.at + 2 * arrays.input.count ≤ length table.now }
+    requires lookahead { arrays.lookahead.at + 2 * arrays.lookahead.count ≤ length table.now }
+    requires records { arrays.records.at + 4 * arrays.records.count ≤ length table.now }
+    ensures ok { IfOk result (λ r. r ≡ rule_of lookup_count first table.now arrays) }
+    ensures refused { IfErr result (λ e. e ≡ TableFault.OutOfMemory) }
+{
+    if is_short(arrays) {
+        return Ok(ItemRule::short(short_rule_of(table, arrays, first, lookup_count)));
+    }
+    let rule = read_long_rule(alloc, table, arrays, first, lookup_count)?;
+    Ok(ItemRule::long(alloc, rule)?)
+}
+
 /// Rules by glyphs or by classes, of a table of n lookups, whose inputs begin with an item that their tables leave
 /// out.
 #[derive(Clone, Copy)]
@@ -121,7 +176,7 @@ pub struct RuleReader {
 }
 
 impl TableReader for RuleReader {
-    type Value = SequenceRule<u16>;
+    type Value = ItemRule;
 
     ghost value_at = { λ r. rule_at r.chained r.lookup_count r.first };
 
@@ -133,20 +188,20 @@ impl TableReader for RuleReader {
         bytes: &[u8],
         at: usize,
         room: &mut Room,
-    ) -> Result<SequenceRule<u16>, TableFault> {
+    ) -> Result<ItemRule, TableFault> {
         let arrays = arrays_at(self.chained, 1, bytes, at)?;
         room.take(element_count(arrays))?;
         read_rule_of(alloc, bytes, arrays, self.first, self.lookup_count)
     }
 
-    fn null(&self, alloc: Global) -> Result<SequenceRule<u16>, TableFault> {
-        let mut input = Vec::new(alloc);
-        input.push(self.first)?;
-        Ok(SequenceRule {
-            backtrack: Array::new(Vec::new(alloc)),
-            input: Array::new(input),
-            lookahead: Array::new(Vec::new(alloc)),
-            records: Array::new(Vec::new(alloc)),
-        })
+    fn null(&self, _alloc: Global) -> Result<ItemRule, TableFault> {
+        let mut input = ArrayVec::new();
+        input.push(self.first);
+        Ok(ItemRule::short(ShortRule {
+            backtrack: ArrayVec::new(),
+            input,
+            lookahead: ArrayVec::new(),
+            records: ArrayVec::new(),
+        }))
     }
 }

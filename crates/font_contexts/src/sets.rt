@@ -15,12 +15,12 @@ use font_common::offsets::read_at_offset;
 use font_common::rows::first_rows;
 use font_common::words::read_word_rows;
 use layout_common::glyph_row::GlyphRow;
-use layout_tables::context::SequenceRule;
+use layout_tables::item_rule::ItemRule;
 use std::alloc::Global;
 
 /// Appends the rules of an array of n offsets, which count from a base. An offset takes a row of room.
 fn push_rules(
-    rules: &mut Vec<SequenceRule<u16>>,
+    rules: &mut Vec<ItemRule>,
     alloc: Global,
     reader: RuleReader,
     table: &[u8],
@@ -46,7 +46,7 @@ fn push_rules(
 
 /// Appends the rules of the set at an offset from a base, none where the offset is null.
 fn push_set(
-    rules: &mut Vec<SequenceRule<u16>>,
+    rules: &mut Vec<ItemRule>,
     alloc: Global,
     reader: RuleReader,
     table: &[u8],
@@ -109,7 +109,7 @@ fn read_sets(
     base: usize,
     sets: &[GlyphRow<u16>],
     room: &mut Room,
-) -> Result<Vec<SequenceRule<u16>>, TableFault>
+) -> Result<Vec<ItemRule>, TableFault>
     requires { base ≤ length table.now }
     ensures ok { IfOk result (λ v. rules_of_sets (rules_at_offset chained lookup_count table.now base) room.old.left sets.now
         ≡ Ok (v.items, room.new.left)) }
@@ -136,7 +136,7 @@ pub fn read_glyph_rules(
     table: &[u8],
     at: usize,
     room: &mut Room,
-) -> Result<Vec<SequenceRule<u16>>, TableFault>
+) -> Result<Vec<ItemRule>, TableFault>
     ensures ok { IfOk result (λ v. glyph_rules_at chained lookup_count room.old.left table.now at ≡ Ok (v.items, room.new.left)) }
     ensures refused { IfErr result (λ e. e ≢ TableFault.OutOfMemory
         → glyph_rules_at chained lookup_count room.old.left table.now at ≡ Err e) }
@@ -167,7 +167,7 @@ pub fn read_class_rules(
     base: usize,
     at: usize,
     room: &mut Room,
-) -> Result<Vec<SequenceRule<u16>>, TableFault>
+) -> Result<Vec<ItemRule>, TableFault>
     requires { base ≤ length table.now }
     ensures ok { IfOk result (λ v. class_rules_at chained lookup_count table.now base at room.old.left ≡ Ok (v.items, room.new.left)) }
     ensures refused { IfErr result (λ e. e ≢ TableFault.OutOfMemory

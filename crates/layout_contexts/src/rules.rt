@@ -10,28 +10,31 @@ use buffer_glyphs::info::hb_glyph_info_t;
 use layout_common::coverage::Coverage;
 use layout_match::{MatchSequence, match_coverage};
 use layout_tables::context::{ClassRules, ContextSubtable, SequenceRule};
+use layout_tables::item_rule::ItemRule;
 
 /// A rule by glyphs (format 1).
-pub fn glyph_rule(rule: &SequenceRule<u16>) -> ChainRule<'_>
+pub fn glyph_rule(rule: &ItemRule) -> ChainRule<'_>
     ensures { chain_of result ≡ glyph_chain rule.now }
 {
+    let sequences = rule.sequences();
     ChainRule {
-        backtrack: MatchSequence::Glyphs(rule.backtrack.as_slice()),
-        input: MatchSequence::Glyphs(rule.input.as_slice()),
-        lookahead: MatchSequence::Glyphs(rule.lookahead.as_slice()),
-        records: rule.records.as_slice(),
+        backtrack: MatchSequence::Glyphs(sequences.backtrack),
+        input: MatchSequence::Glyphs(sequences.input),
+        lookahead: MatchSequence::Glyphs(sequences.lookahead),
+        records: sequences.records,
     }
 }
 
 /// A rule by classes (format 2).
-pub fn class_rule<'a>(rules: &'a ClassRules, rule: &'a SequenceRule<u16>) -> ChainRule<'a>
+pub fn class_rule<'a>(rules: &'a ClassRules, rule: &'a ItemRule) -> ChainRule<'a>
     ensures { chain_of result ≡ class_chain rules.now rule.now }
 {
+    let sequences = rule.sequences();
     ChainRule {
-        backtrack: MatchSequence::Classes(&rules.backtrack, rule.backtrack.as_slice()),
-        input: MatchSequence::Classes(&rules.input, rule.input.as_slice()),
-        lookahead: MatchSequence::Classes(&rules.lookahead, rule.lookahead.as_slice()),
-        records: rule.records.as_slice(),
+        backtrack: MatchSequence::Classes(&rules.backtrack, sequences.backtrack),
+        input: MatchSequence::Classes(&rules.input, sequences.input),
+        lookahead: MatchSequence::Classes(&rules.lookahead, sequences.lookahead),
+        records: sequences.records,
     }
 }
 

@@ -9,3 +9,4 @@ pub mod Choice
 pub mod Indices
 pub mod Covers
 pub mod Rules
+pub mod ItemRules

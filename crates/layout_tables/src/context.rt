@@ -5,7 +5,7 @@ use layout_common::class_definition::ClassDefinition;
 use layout_common::coverage::Coverage;
 
 /// A lookup to apply at a glyph of the input sequence (`SequenceLookupRecord`).
-#[derive(Clone, Copy, Debug, Drop)]
+#[derive(Clone, Copy, Debug, Default, Drop)]
 pub struct SequenceLookupRecord {
     /// The index of the glyph in the input sequence, the first being 0.
     pub sequence_index: u16,

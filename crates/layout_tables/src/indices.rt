@@ -5,6 +5,7 @@ ghost use Rattle.std.specs.Option.{option_copied, option_map_or};
 ghost use Rattle.layout_tables.specs.Indices.{all_below, context_fits, records_fit, system_fits, script_fits, indices_fit};
 
 use crate::context::{ContextSubtable, SequenceLookupRecord, SequenceRule};
+use crate::item_rule::ItemRule;
 use crate::script::{LangSys, LangSysRecord, ScriptRecord};
 use crate::table::{FeatureRecord, ScriptsAndFeatures};
 
@@ -25,11 +26,19 @@ impl ContextSubtable {
         ensures { result ≡ context_fits lookup_count self.now }
     {
         match self {
-            ContextSubtable::Glyphs(rules) => rules_fit(lookup_count, rules.as_slice()),
-            ContextSubtable::Classes(rules) => rules_fit(lookup_count, rules.rules.as_slice()),
+            ContextSubtable::Glyphs(rules) => item_rules_fit(lookup_count, rules.as_slice()),
+            ContextSubtable::Classes(rules) => {
+                item_rules_fit(lookup_count, rules.rules.as_slice())
+            }
             ContextSubtable::Coverage(rules) => rules_fit(lookup_count, rules.as_slice()),
         }
     }
+}
+
+fn item_rules_fit(count: usize, rules: &[ItemRule]) -> bool
+    ensures { result ≡ list_all (λ r. records_fit count r.records) rules.now }
+{
+    rules.iter().all(|rule| records_fit(count, rule.records()))
 }
 
 fn rules_fit<I>(count: usize, rules: &[SequenceRule<I>]) -> bool

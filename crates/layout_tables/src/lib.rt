@@ -9,6 +9,7 @@ mod covers;
 pub mod cursive;
 mod fits;
 mod indices;
+pub mod item_rule;
 mod keyed;
 pub mod ligature;
 pub mod mark;

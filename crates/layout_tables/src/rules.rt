@@ -4,14 +4,14 @@ ghost use Rattle.std.specs.List.{AllWithin};
 ghost use Rattle.std.specs.List.Sorted.{IsNonDecreasingBy};
 ghost use Rattle.layout_tables.specs.Rules.{StandWithin, first_number};
 
-use crate::context::SequenceRule;
+use crate::item_rule::ItemRule;
 use layout_common::array::Array;
 use std::marker::Model;
 
 /// Rules whose items are glyphs or classes, in the order in which they are tried.
 #[derive(Debug, Drop)]
 pub struct SequenceRules {
-    rules: Array<SequenceRule<u16>>,
+    rules: Array<ItemRule>,
     /// Whether the first items of the inputs never fall, as in a font's sets of rules. It only saves time: the rules
     /// that begin with an item are then found by halves.
     rises: bool,
@@ -32,7 +32,7 @@ impl Model for SequenceRules {
 
 impl SequenceRules {
     /// Of rules in the order in which they are tried.
-    pub fn new(rules: Array<SequenceRule<u16>>) -> SequenceRules
+    pub fn new(rules: Array<ItemRule>) -> SequenceRules
         ensures { result ≡ rules }
     {
         let rises = never_fall(rules.as_slice());
@@ -40,7 +40,7 @@ impl SequenceRules {
     }
 
     /// The rules, in the order in which they are tried.
-    pub fn as_slice(&self) -> &[SequenceRule<u16>]
+    pub fn as_slice(&self) -> &[ItemRule]
         ensures { result.now ≡ self.now }
     {
         self.rules.as_slice()
@@ -69,17 +69,17 @@ impl SequenceRules {
 }
 
 /// One more than the first item of a rule's input, 0 where it has none.
-fn first_number(rule: &SequenceRule<u16>) -> u32
+fn first_number(rule: &ItemRule) -> u32
     ensures { result ≡ first_number rule.now.input }
 {
-    match rule.input.as_slice() {
+    match rule.input() {
         [first, ..] => u32::from(*first) + 1,
         [] => 0,
     }
 }
 
 /// Whether the first items of the inputs never fall.
-fn never_fall(rules: &[SequenceRule<u16>]) -> bool
+fn never_fall(rules: &[ItemRule]) -> bool
     ensures { result ≡ true → IsNonDecreasingBy (λ r. first_number r.input) rules.now }
 {
     for i in 1..rules.len() {
@@ -91,7 +91,7 @@ fn never_fall(rules: &[SequenceRule<u16>]) -> bool
 }
 
 /// The index of the first rule whose number is at least `number`.
-fn first_from(rules: &[SequenceRule<u16>], number: u32) -> usize
+fn first_from(rules: &[ItemRule], number: u32) -> usize
     requires { IsNonDecreasingBy (λ r. first_number r.input) rules.now }
     ensures within { result ≤ length rules.now }
     ensures below { AllWithin (λ r. first_number r.input < number) rules.now 0 result }

@@ -14,6 +14,7 @@ use crate::rows::read_row;
 use crate::value::FromJson;
 use layout_common::class_definition::ClassDefinition;
 use layout_tables::context::{ClassRules, ContextSubtable, SequenceLookupRecord, SequenceRule};
+use layout_tables::item_rule::ItemRule;
 use layout_tables::rules::SequenceRules;
 use serde_json::Value;
 use shell_json::fault::JsonFault;
@@ -55,6 +56,15 @@ impl<I: FromJson> FromJson for SequenceRule<I> {
             lookahead,
             records,
         })
+    }
+}
+
+impl FromJson for ItemRule {
+    ghost font_value = { λ limit. rule (number_below limit) (lookup_record limit) };
+
+    fn from_json(alloc: Global, value: &Value, limit: usize) -> Result<ItemRule, JsonFault> {
+        let rule: SequenceRule<u16> = FromJson::from_json(alloc, value, limit)?;
+        Ok(ItemRule::of(alloc, rule)?)
     }
 }
 

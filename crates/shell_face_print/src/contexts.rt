@@ -2,13 +2,15 @@
 ghost use Rattle.std.specs.Prelude.{◌≡◌, ◌++◌, OnOk};
 ghost use Rattle.layout_tables.specs.declared.context.ContextSubtable.TheVariants as Rules;
 ghost use Rattle.shell_print_json.specs.Tokens.{value_tokens};
+ghost use Rattle.shell_print_json.specs.Values.{natural};
 ghost use Rattle.shell_face_print.specs.Contexts.{classes_json, context_json, lookup_record_json, rule_json, rules_json};
 
-use crate::lists::write_list;
+use crate::lists::{Listed, write_list};
 use crate::objects::{write_object2, write_object4};
 use crate::rows::{write_row2, write_row3, write_row4};
 use crate::value::{Named, ToJson};
 use layout_tables::context::{ClassRules, ContextSubtable, SequenceLookupRecord, SequenceRule};
+use layout_tables::item_rule::ItemRule;
 use layout_tables::rules::SequenceRules;
 use shell_print_json::JsonText;
 use std::alloc::AllocError;
@@ -30,6 +32,28 @@ impl<I: ToJson> ToJson for SequenceRule<I> {
             &self.input,
             &self.lookahead,
             &self.records,
+            text,
+        )
+    }
+}
+
+impl ToJson for ItemRule {
+    ghost json = { rule_json natural };
+
+    fn write(&self, text: &mut JsonText) -> Result<(), AllocError> {
+        write_row4(
+            &Listed {
+                items: self.backtrack(),
+            },
+            &Listed {
+                items: self.input(),
+            },
+            &Listed {
+                items: self.lookahead(),
+            },
+            &Listed {
+                items: self.records(),
+            },
             text,
         )
     }

@@ -2,7 +2,8 @@
 use font_bytes::fault::TableFault;
 use font_bytes::room::Room;
 use font_contexts::contexts::read_context;
-use layout_tables::context::{ContextSubtable, SequenceRule};
+use layout_tables::context::ContextSubtable;
+use layout_tables::item_rule::ItemRule;
 use std::process::Abort;
 use std::test::Fail;
 
@@ -22,11 +23,11 @@ const BY_COVERAGES: [u8; 30] = [
     0, 3, 0, 0, 0, 1, 0, 18, 0, 1, 0, 24, 0, 1, 0, 0, 0, 0, 0, 1, 0, 1, 0, 5, 0, 1, 0, 1, 0, 6,
 ];
 
-fn is_rule(rule: &SequenceRule<u16>, input: &[u16], record_count: usize) -> bool {
-    rule.backtrack.len() == 0
-        && rule.input.as_slice() == input
-        && rule.lookahead.len() == 0
-        && rule.records.len() == record_count
+fn is_rule(rule: &ItemRule, input: &[u16], record_count: usize) -> bool {
+    rule.backtrack().is_empty()
+        && rule.input() == input
+        && rule.lookahead().is_empty()
+        && rule.records().len() == record_count
 }
 
 #[test]

@@ -12,14 +12,22 @@ use layout_common::class_definition::ClassDefinition;
 use layout_common::coverage::Coverage;
 use layout_common::digested::{Covers, Digested};
 use layout_tables::context::{ClassRules, ContextSubtable, SequenceRule};
+use layout_tables::item_rule::ItemRule;
 
 /// Whether a rule counts: without context around the glyphs, one that requires glyphs before or after its input
 /// doesn't.
-fn counts<I>(rule: &SequenceRule<I>, ctx: &WouldApplyContext) -> bool
+fn counts(rule: &SequenceRule<Coverage>, ctx: &WouldApplyContext) -> bool
     ensures { result ≡ counts ctx.now.zero_context rule.now }
 {
     !ctx.zero_context
         || (rule.backtrack.as_slice().is_empty() && rule.lookahead.as_slice().is_empty())
+}
+
+/// Whether a rule by glyphs or by classes counts.
+fn item_rule_counts(rule: &ItemRule, ctx: &WouldApplyContext) -> bool
+    ensures { result ≡ counts ctx.now.zero_context rule.now }
+{
+    !ctx.zero_context || (rule.backtrack().is_empty() && rule.lookahead().is_empty())
 }
 
 #[tactic(auto, using(crate::proofs::Fitting::fit_next, crate::proofs::Fitting::fit_uneven, crate::proofs::Fitting::fit_end))]
@@ -52,20 +60,16 @@ fn fit_coverages(sets: &[Coverage], glyphs: &[u16]) -> bool
     true
 }
 
-fn glyph_rule_would_apply(rule: &SequenceRule<u16>, ctx: &WouldApplyContext) -> bool
+fn glyph_rule_would_apply(rule: &ItemRule, ctx: &WouldApplyContext) -> bool
     ensures { result ≡ glyph_rule_would ctx.now.zero_context ctx.now.glyphs.now rule.now }
 {
-    counts(rule, ctx) && rule.input.as_slice() == ctx.glyphs
+    item_rule_counts(rule, ctx) && rule.input() == ctx.glyphs
 }
 
-fn class_rule_would_apply(
-    rules: &ClassRules,
-    rule: &SequenceRule<u16>,
-    ctx: &WouldApplyContext,
-) -> bool
+fn class_rule_would_apply(rules: &ClassRules, rule: &ItemRule, ctx: &WouldApplyContext) -> bool
     ensures { result ≡ class_rule_would rules.now ctx.now.zero_context ctx.now.glyphs.now rule.now }
 {
-    counts(rule, ctx) && fit_classes(&rules.input, rule.input.as_slice(), ctx.glyphs)
+    item_rule_counts(rule, ctx) && fit_classes(&rules.input, rule.input(), ctx.glyphs)
 }
 
 fn coverage_rule_would_apply(rule: &SequenceRule<Coverage>, ctx: &WouldApplyContext) -> bool
@@ -83,17 +87,13 @@ fn is_first_covered(set: &Coverage, glyphs: &[u16]) -> bool
     }
 }
 
-fn any_glyph_rule(rules: &[SequenceRule<u16>], ctx: &WouldApplyContext) -> bool
+fn any_glyph_rule(rules: &[ItemRule], ctx: &WouldApplyContext) -> bool
     ensures { result ≡ list_any (λ r. glyph_rule_would ctx.now.zero_context ctx.now.glyphs.now r) rules.now }
 {
     rules.iter().any(|rule| glyph_rule_would_apply(rule, ctx))
 }
 
-fn any_class_rule(
-    classes: &ClassRules,
-    rules: &[SequenceRule<u16>],
-    ctx: &WouldApplyContext,
-) -> bool
+fn any_class_rule(classes: &ClassRules, rules: &[ItemRule], ctx: &WouldApplyContext) -> bool
     ensures { result
         ≡ list_any (λ r. class_rule_would classes.now ctx.now.zero_context ctx.now.glyphs.now r) rules.now }
 {
