@@ -8,6 +8,7 @@ ghost use Rattle.layout_tables.specs.Covers.{admits_context, begins_with, covers
 
 use crate::context::{ContextSubtable, SequenceRule};
 use crate::cursive::CursivePos;
+use crate::item_rule::ItemRule;
 use crate::mark::{MarkBasePos, MarkLigPos};
 use crate::pair::{PairPos, PairRow};
 use crate::reverse::ReverseChainSubst;
@@ -193,6 +194,57 @@ fn collect_beside_rules<I: Covers, D: hb_set_digest_ext>(
     true
 }
 
+/// The item that a rule by glyphs requires nearest on a side; none where it requires none there.
+#[tactic(auto, using(crate::proofs::Required::second_there, crate::proofs::Required::second_missing))]
+fn nearest_glyph(rule: &ItemRule, side: Side) -> Option<&u16>
+    ensures { option_copied result ≡ slice_get (items_on side rule.now) 0 }
+{
+    match side {
+        Side::Before => rule.backtrack().get(0),
+        Side::After => match rule.input().get(1) {
+            Some(item) => Some(item),
+            None => rule.lookahead().get(0),
+        },
+    }
+}
+
+/// Adds the glyph that a rule by glyphs requires nearest on a side, where it requires one; whether it does. What was
+/// there stays.
+fn collect_nearest_glyph<D: hb_set_digest_ext>(rule: &ItemRule, side: Side, digest: &mut D) -> bool
+    ensures none { result ≡ true → first_admits (λ glyph g. g == glyph) (items_on side rule.now) None ≡ false }
+    ensures added { result ≡ true → (g : ℕ) → first_admits (λ glyph g. g == glyph) (items_on side rule.now) (Some g) ≡ true
+        → D.may_contain digest.new g ≡ true }
+    ensures stays { (g : ℕ) → D.may_contain digest.old g ≡ true → D.may_contain digest.new g ≡ true }
+{
+    match nearest_glyph(rule, side) {
+        Some(item) => {
+            item.collect(digest);
+            true
+        }
+        None => false,
+    }
+}
+
+/// Adds the glyphs of which one has to stand on a side, where each rule by glyphs requires one there; whether each does.
+fn collect_beside_item_rules<D: hb_set_digest_ext>(
+    rules: &[ItemRule],
+    side: Side,
+    digest: &mut D,
+) -> bool
+    ensures none { result ≡ true
+        → list_any (λ r. first_admits (λ glyph g. g == glyph) (items_on side r) None) rules.now ≡ false }
+    ensures added { result ≡ true → (g : ℕ)
+        → list_any (λ r. first_admits (λ glyph g. g == glyph) (items_on side r) (Some g)) rules.now ≡ true
+        → D.may_contain digest.new g ≡ true }
+{
+    for rule in rules {
+        if !collect_nearest_glyph(rule, side, digest) {
+            return false;
+        }
+    }
+    true
+}
+
 impl Covers for ContextSubtable {
     ghost covers = { covers_context };
 
@@ -208,7 +260,9 @@ impl Covers for ContextSubtable {
 
     fn collect_beside<D: hb_set_digest_ext>(&self, side: Side, digest: &mut D) -> bool {
         match self {
-            ContextSubtable::Glyphs(rules) => collect_beside_rules(rules.as_slice(), side, digest),
+            ContextSubtable::Glyphs(rules) => {
+                collect_beside_item_rules(rules.as_slice(), side, digest)
+            }
             ContextSubtable::Classes(_) => false,
             ContextSubtable::Coverage(rules) => collect_beside_rules(
                 rules.as_slice(),
