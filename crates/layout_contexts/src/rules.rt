@@ -1,14 +1,15 @@
 //! The rules of a context subtable, in any of its formats (OpenType, chapter 2, sequence context formats 1 to 3).
-ghost use Rattle.std.specs.Prelude.{◌≡◌, ◌<◌, length, slice_get, Some};
+ghost use Rattle.std.specs.Prelude.{◌≡◌, ◌<◌, length, map, slice_get, Some};
 ghost use Rattle.buffer_glyphs.specs.Items.{item_of};
 ghost use Rattle.layout_contexts.specs.Chains.{class_chain, coverage_chain, glyph_chain};
 ghost use Rattle.layout_contexts.specs.Fitting.{chain_of};
+ghost use Rattle.layout_contexts.specs.Following.{may_follow};
 ghost use Rattle.layout_contexts.specs.Rules.{BeginWithin, chains_of, is_tried_at};
 
-use crate::chain::ChainRule;
+use crate::chain::{ChainRule, may_follow};
 use buffer_glyphs::info::hb_glyph_info_t;
 use layout_common::coverage::Coverage;
-use layout_match::{MatchSequence, match_coverage};
+use layout_match::{MatchSequence, NextGlyphs, match_coverage};
 use layout_tables::context::{ClassRules, ContextSubtable, SequenceRule};
 use layout_tables::item_rule::ItemRule;
 
@@ -70,6 +71,55 @@ pub fn rule_at(subtable: &ContextSubtable, i: usize) -> ChainRule<'_>
         ContextSubtable::Glyphs(rules) => glyph_rule(&rules.as_slice()[i]),
         ContextSubtable::Classes(rules) => class_rule(rules, &rules.rules.as_slice()[i]),
         ContextSubtable::Coverage(rules) => coverage_rule(&rules.as_slice()[i]),
+    }
+}
+
+/// Whether a rule by glyphs may match by the glyph after the cursor, as `may_follow`.
+#[tactic(auto, using(crate::proofs::Followed::second_input, crate::proofs::Followed::first_lookahead, crate::proofs::Followed::alone))]
+fn glyphs_may_follow(rule: &ItemRule, next: &NextGlyphs) -> bool
+    ensures { result ≡ may_follow next.now (glyph_chain rule.now) }
+{
+    let input = MatchSequence::Glyphs(rule.input());
+    if input.len() > 1 {
+        return next.input.may_fit(&input, 1);
+    }
+    let lookahead = MatchSequence::Glyphs(rule.lookahead());
+    if lookahead.len() > 0 {
+        return next.lookahead.may_fit(&lookahead, 0);
+    }
+    true
+}
+
+/// Whether a rule by classes may match by the glyph after the cursor, as `may_follow`.
+#[tactic(auto, using(crate::proofs::Followed::second_input, crate::proofs::Followed::first_lookahead, crate::proofs::Followed::alone))]
+fn classes_may_follow(rules: &ClassRules, rule: &ItemRule, next: &NextGlyphs) -> bool
+    ensures { result ≡ may_follow next.now (class_chain rules.now rule.now) }
+{
+    let input = MatchSequence::Classes(&rules.input, rule.input());
+    if input.len() > 1 {
+        return next.input.may_fit(&input, 1);
+    }
+    let lookahead = MatchSequence::Classes(&rules.lookahead, rule.lookahead());
+    if lookahead.len() > 0 {
+        return next.lookahead.may_fit(&lookahead, 0);
+    }
+    true
+}
+
+/// Whether the rule at an index among those of a subtable, which begins with the glyph at the cursor, may match by the
+/// one after it. Of the rule it takes only the sequence with the item that it tests: most rules are passed over by it.
+pub fn may_follow_at(subtable: &ContextSubtable, i: usize, next: &NextGlyphs) -> bool
+    requires { i < length (chains_of subtable.now) }
+    ensures { slice_get (map (may_follow next.now) (chains_of subtable.now)) i ≡ Some result }
+{
+    match subtable {
+        ContextSubtable::Glyphs(rules) => glyphs_may_follow(&rules.as_slice()[i], next),
+        ContextSubtable::Classes(rules) => {
+            classes_may_follow(rules, &rules.rules.as_slice()[i], next)
+        }
+        ContextSubtable::Coverage(rules) => {
+            may_follow(&coverage_rule(&rules.as_slice()[i]), next)
+        }
     }
 }
 

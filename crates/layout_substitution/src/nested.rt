@@ -26,7 +26,7 @@ use layout_common::digested::Digested;
 use layout_common::subtables::Subtables;
 use layout_contexts::{
     ChainRule, begin_record, fails_unflagged, glyph_count, is_tried_at, known_neighbours,
-    match_chain, may_follow, move_to_match_end, next_context, rule_at, rules_at, settle_match,
+    match_chain, may_follow_at, move_to_match_end, next_context, rule_at, rules_at, settle_match,
 };
 use layout_face::substitution::{SubstitutionSubtables, SubstitutionTable};
 use layout_gsub::apply::apply_first;
@@ -178,10 +178,10 @@ fn apply_rules(
     let (start, end) = rules_at(subtable, buffer.cur(0));
     let next = next_for_rules(ctx, end.saturating_sub(start), buffer);
     for i in start..end {
-        let rule = rule_at(subtable, i);
-        if !may_follow(&rule, &next) {
+        if !may_follow_at(subtable, i, &next) {
             continue;
         }
+        let rule = rule_at(subtable, i);
         match apply_rule(table, depth, &rule, ctx, buffer) {
             Ok(false) => {}
             Ok(true) => return Ok(true),

@@ -1,6 +1,7 @@
 -- Rules that cannot match by the next glyph need not be tried.
-use Rattle.std.proofs.Common.{ℕ, ◌≡◌, ◌+◌, Bool, true, false, inl, inr, List, [], ◌∷◌, drop, Option, Some, slice_get, refl, sym, ap, subst, ◌∙◌}
-use Rattle.std.proofs.lemmas.Option.{slice_get_within, get_or_from_slice_get}
+use Rattle.std.proofs.Common.{ℕ, ◌≡◌, ◌≤◌, ◌<◌, ◌+◌, ◌⊎◌, Bool, true, false, inl, inr, List, [], ◌∷◌, drop, length, get_or, Option, Some, None, map, slice_get, refl, sym, ap, subst, ◌∙◌, arith}
+use Rattle.std.specs.Option.{option_map}
+use Rattle.std.proofs.lemmas.Option.{same_Some, slice_get-map, slice_get_cases, slice_get_within, get_or_from_slice_get}
 use Rattle.buffer_glyphs.specs.Items.{Item, strip}
 use Rattle.buffer_glyphs.specs.Origins.{Asks}
 use Rattle.buffer_glyphs.specs.Events.{Concat, concat_marked}
@@ -62,3 +63,16 @@ passed_over nest a all c next k r start now at none told t =
     let unasked : (flag_requests_of now).concat ≡ false = ap (λ (q : Asks). q.concat) asks ∙ unasked_where_told (flag_requests_of start).concat next c told.unflagged none in
     let passes = tries_nothing r now (chain_rule nest a c (cut_with r now)) unasked (excluded_tries nest a c (cut_with r now) next own context none) in
     (passed_next (chain_rule nest a) all k c r r start now now (slice_get_within all k c at) (sym (get_or_from_slice_get all k c c at)) t passes).0
+
+one_there : {X : Type 0} (xs : List X) (k : ℕ) → k < length xs → ((x : X) × (k < length xs) × (slice_get xs k ≡ Some x) × (get_or xs k x ≡ x)) ⊎ ((length xs ≤ k) × (slice_get xs k ≡ None)) → (x : X) × (slice_get xs k ≡ Some x)
+one_there xs k lt (inl is) = (is.0, is.2)
+one_there xs k lt (inr past) = absurd (omega (arith, lt, past.0))
+
+-- the rule at an index is passed over where its test excludes it
+pub passed_over_at : (nest : Option (ℕ → Action)) (a : ApplyContext) (all : List Chain) (next : NextGlyphs) (follows : Bool) (k r : ℕ) (start now : Sides) → k < length all → slice_get (map (may_follow next) all) k ≡ Some follows → follows ≡ false → AreNext next a start
+    → ArePassed (chain_rule nest a) all (drop k all) r start now → ArePassed (chain_rule nest a) all (drop (k + 1) all) r start now
+passed_over_at nest a all next follows k r start now lt told none are t =
+    let there = one_there all k lt (slice_get_cases all k).1 in
+    let P : Option Chain → Type 0 = λ o. option_map (may_follow next) o ≡ Some follows in
+    let follows_is : may_follow next there.0 ≡ follows = same_Some _ _ (subst P there.1 (sym (slice_get-map (may_follow next) all k) ∙ told)) in
+    passed_over nest a all there.0 next k r start now there.1 (follows_is ∙ none) are t

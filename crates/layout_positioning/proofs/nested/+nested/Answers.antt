@@ -16,7 +16,7 @@ use Rattle.layout_contexts.specs.Nesting.{Walking}
 use Rattle.layout_contexts.specs.Records.{IsRecordBegun}
 use Rattle.layout_contexts.specs.Rules.{chains_of, is_tried_at}
 use Rattle.layout_contexts.proofs.Lemmas.Acting.{match_inside, rule_acted, rule_failed, rule_passed}
-use Rattle.layout_contexts.proofs.Lemmas.Following.{passed_over}
+use Rattle.layout_contexts.proofs.Lemmas.Following.{passed_over_at}
 use Rattle.layout_contexts.proofs.Lemmas.Inside.{then_stays}
 use Rattle.layout_contexts.proofs.Lemmas.LeftOut.{is_there, jumped_over, jumped_over_all, same_neighbours}
 use Rattle.layout_contexts.proofs.Lemmas.Ranges.{passed_after, passed_before}
@@ -158,15 +158,15 @@ apply_rules-loop-i-preserved t c =
     let at : x ≡ get_or all c.loop-i.i x = sym (get_or_from_slice_get all c.loop-i.i x x c.rule_at-rule.ensures) in
     record { passed = (first_passes act all c.loop-i.i x c.loop-i.buffer.direction c.args.buffer.now.direction c.args.ctx.now.random_state c.args.ctx.now.random_state c.args.ctx.now.random_state c.in-Ok-false.field-0 c.args.buffer.now c.loop-i.buffer c.apply_rule.new.buffer (omega (arith, c.loop-i-test.true, c.rules_at-start.ensures.within)) at i (still_direction c.args.buffer.now c.loop-i.buffer i.still) refl c.in-Ok-false.field-0-test c.in-Ok-false.ensures.performs).0; kept = c.in-Ok-false.ensures.kept }
 
-pub apply_rules-loop-i-preserved-then-not-may_follow : goal.apply_rules-loop-i-preserved-then-not-may_follow
-apply_rules-loop-i-preserved-then-not-may_follow t c =
+pub apply_rules-loop-i-preserved-then-not-may_follow_at : goal.apply_rules-loop-i-preserved-then-not-may_follow_at
+apply_rules-loop-i-preserved-then-not-may_follow_at t c =
     let i = c.loop-i.invariant in
     let a = apply_context_of c.args.ctx.now in
     let told = c.next_for_rules-next.ensures in
     record {
       passed =
-          passed_over (nested_actions c.args.table.now.lookups c.args.depth c.args.buffer.now.direction a) a (chains_of c.args.subtable.now) (chain_of c.rule_at-rule.result) c.next_for_rules-next.result c.loop-i.i c.args.ctx.now.random_state c.args.buffer.now c.loop-i.buffer c.rule_at-rule.ensures
-          (sym c.may_follow.ensures ∙ c.if-not-may_follow.true) (record { input = told.input; lookahead = told.lookahead; unflagged = told.unflagged }) i.passed;
+          passed_over_at (nested_actions c.args.table.now.lookups c.args.depth c.args.buffer.now.direction a) a (chains_of c.args.subtable.now) c.next_for_rules-next.result c.may_follow_at.result c.loop-i.i c.args.ctx.now.random_state c.args.buffer.now c.loop-i.buffer (omega (arith, c.loop-i-test.true, c.rules_at-start.ensures.within)) c.may_follow_at.ensures
+          c.if-not-may_follow_at.true (record { input = told.input; lookahead = told.lookahead; unflagged = told.unflagged }) i.passed;
       kept = i.kept;
     }
 
