@@ -1,5 +1,7 @@
 -- Rules that cannot match by a glyph beside the one where they are tried.
-use Rattle.std.proofs.Common.{ℕ, ◌≡◌, ◌≤◌, ◌<◌, ◌+◌, ◌-◌, true, false, Bool, List, [], ◌∷◌, length, drop, Option, Some, None, Result, Ok, Err, reverse, if◌then◌else◌, inl, inr, refl, ap, arith}
+use Rattle.std.proofs.Common.{ℕ, ◌≡◌, ◌≤◌, ◌<◌, ◌+◌, ◌-◌, true, false, Bool, List, [], ◌∷◌, length, map, drop, get_or, Option, Some, None, option_map, slice_get, Result, Ok, Err, reverse, if◌then◌else◌, inl, inr, refl, sym, ap, ◌∙◌, arith}
+use Rattle.std.proofs.lemmas.List.{length-map}
+use Rattle.std.proofs.lemmas.Option.{slice_get-map, slice_get_read}
 use Rattle.std.specs.Prelude.{nat_le, ◌&&◌}
 use Rattle.buffer_glyphs.specs.Items.{Item}
 use Rattle.buffer_glyphs.specs.Parts.{first_of}
@@ -32,6 +34,13 @@ alone next [] [] le none = refl
 alone next (a ∷ []) [] le none = refl
 alone next (a ∷ b ∷ input) lookahead le none = absurd (omega (arith, le))
 alone next input (c ∷ lookahead) le none = absurd (omega (arith, none))
+
+-- the test of the rule at an index
+pub test_there : {X : Type 0} (next : NextGlyphs) (chain : X → Chain) (seen rules : List X) (i : ℕ) (rule : X) (b : Bool) → i < length (map chain rules) → seen ≡ rules → rule ≡ get_or seen i rule → b ≡ may_follow next (chain rule) → slice_get (map (may_follow next) (map chain rules)) i ≡ Some b
+test_there next chain seen rules i rule b lt same at told =
+    let within : i < length rules = omega (arith, length-map rules chain, lt) in
+    let there : slice_get rules i ≡ Some rule = slice_get_read rules (length rules) i rule refl within (at ∙ ap (λ l. get_or l i rule) same) in
+    slice_get-map (may_follow next) (map chain rules) i ∙ ap (option_map (may_follow next)) (slice_get-map chain rules i ∙ ap (option_map chain) there) ∙ ap Some (sym told)
 
 -- ---- the rule
 
