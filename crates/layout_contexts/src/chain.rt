@@ -10,7 +10,7 @@ ghost use Rattle.layout_match.specs.Sequences.{tests_of};
 ghost use Rattle.buffer_stages.specs.Performing.{cut_with};
 ghost use Rattle.layout_contexts.specs.Chains.{begins};
 ghost use Rattle.layout_contexts.specs.Fitting.{IsInside, IsShort, MatchesOrPasses, Says, chain_of};
-ghost use Rattle.layout_contexts.specs.Following.{NeverMatches, may_follow};
+ghost use Rattle.layout_contexts.specs.Following.{NeverMatches};
 
 use crate::counts::backtrack_len;
 use crate::match_indices::move_indices;
@@ -21,8 +21,8 @@ use buffer_stages::mask::shares_mask;
 use layout_match::marking::{mark_attempt, mark_match};
 use layout_match::search::is_left_out;
 use layout_match::{
-    MAX_CONTEXT_LENGTH, MatchPositions, MatchSequence, NextGlyphs, flags_failures,
-    hb_ot_apply_context_t, input_end, match_backtrack, match_input, match_lookahead,
+    MAX_CONTEXT_LENGTH, MatchPositions, MatchSequence, flags_failures, hb_ot_apply_context_t,
+    input_end, match_backtrack, match_input, match_lookahead,
 };
 use layout_tables::context::SequenceLookupRecord;
 
@@ -86,21 +86,6 @@ fn first_matches(rule: &ChainRule, info: &hb_glyph_info_t) -> bool
     ensures { result ≡ begins (chain_of rule.now).input (item_of info.now) }
 {
     rule.input.fits(0, info)
-}
-
-/// Whether a rule that begins with the glyph at the cursor may match by the one after it: by the second item of its
-/// input, or where that has one item, by the first of its lookahead sequence.
-#[tactic(auto, using(crate::proofs::Followed::second_input, crate::proofs::Followed::first_lookahead, crate::proofs::Followed::alone))]
-pub fn may_follow(rule: &ChainRule, next: &NextGlyphs) -> bool
-    ensures { result ≡ may_follow next.now (chain_of rule.now) }
-{
-    if rule.input.len() > 1 {
-        return next.input.may_fit(&rule.input, 1);
-    }
-    if rule.lookahead.len() > 0 {
-        return next.lookahead.may_fit(&rule.lookahead, 0);
-    }
-    true
 }
 
 /// Matches a rule at the cursor.

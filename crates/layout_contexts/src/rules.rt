@@ -6,7 +6,7 @@ ghost use Rattle.layout_contexts.specs.Fitting.{chain_of};
 ghost use Rattle.layout_contexts.specs.Following.{may_follow};
 ghost use Rattle.layout_contexts.specs.Rules.{BeginWithin, chains_of, is_tried_at};
 
-use crate::chain::{ChainRule, may_follow};
+use crate::chain::ChainRule;
 use buffer_glyphs::info::hb_glyph_info_t;
 use layout_common::coverage::Coverage;
 use layout_match::{MatchSequence, NextGlyphs, match_coverage};
@@ -74,7 +74,8 @@ pub fn rule_at(subtable: &ContextSubtable, i: usize) -> ChainRule<'_>
     }
 }
 
-/// Whether a rule by glyphs may match by the glyph after the cursor, as `may_follow`.
+/// Whether a rule by glyphs, which begins with the glyph at the cursor, may match by the one after it: by the second item
+/// of its input, or where that has one item, by the first of its lookahead sequence.
 #[tactic(auto, using(crate::proofs::Followed::second_input, crate::proofs::Followed::first_lookahead, crate::proofs::Followed::alone))]
 fn glyphs_may_follow(rule: &ItemRule, next: &NextGlyphs) -> bool
     ensures { result ≡ may_follow next.now (glyph_chain rule.now) }
@@ -90,7 +91,7 @@ fn glyphs_may_follow(rule: &ItemRule, next: &NextGlyphs) -> bool
     true
 }
 
-/// Whether a rule by classes may match by the glyph after the cursor, as `may_follow`.
+/// Whether a rule by classes may match by the glyph after the cursor, as one by glyphs.
 #[tactic(auto, using(crate::proofs::Followed::second_input, crate::proofs::Followed::first_lookahead, crate::proofs::Followed::alone))]
 fn classes_may_follow(rules: &ClassRules, rule: &ItemRule, next: &NextGlyphs) -> bool
     ensures { result ≡ may_follow next.now (class_chain rules.now rule.now) }
@@ -100,6 +101,22 @@ fn classes_may_follow(rules: &ClassRules, rule: &ItemRule, next: &NextGlyphs) ->
         return next.input.may_fit(&input, 1);
     }
     let lookahead = MatchSequence::Classes(&rules.lookahead, rule.lookahead());
+    if lookahead.len() > 0 {
+        return next.lookahead.may_fit(&lookahead, 0);
+    }
+    true
+}
+
+/// Whether a rule by sets of glyphs may match by the glyph after the cursor, as one by glyphs.
+#[tactic(auto, using(crate::proofs::Followed::second_input, crate::proofs::Followed::first_lookahead, crate::proofs::Followed::alone))]
+fn coverages_may_follow(rule: &SequenceRule<Coverage>, next: &NextGlyphs) -> bool
+    ensures { result ≡ may_follow next.now (coverage_chain rule.now) }
+{
+    let input = MatchSequence::Coverages(rule.input.as_slice());
+    if input.len() > 1 {
+        return next.input.may_fit(&input, 1);
+    }
+    let lookahead = MatchSequence::Coverages(rule.lookahead.as_slice());
     if lookahead.len() > 0 {
         return next.lookahead.may_fit(&lookahead, 0);
     }
@@ -117,9 +134,7 @@ pub fn may_follow_at(subtable: &ContextSubtable, i: usize, next: &NextGlyphs) ->
         ContextSubtable::Classes(rules) => {
             classes_may_follow(rules, &rules.rules.as_slice()[i], next)
         }
-        ContextSubtable::Coverage(rules) => {
-            may_follow(&coverage_rule(&rules.as_slice()[i]), next)
-        }
+        ContextSubtable::Coverage(rules) => coverages_may_follow(&rules.as_slice()[i], next),
     }
 }
 

@@ -22,5 +22,5 @@ returns-in-Classes c =
 pub returns-in-Coverage : goal.returns-in-Coverage
 returns-in-Coverage c =
     let next = c.args.next.now in
-    let P : ContextSubtable → Type 0 = λ s. c.args.i < length (chains_of s) → slice_get (map (may_follow next) (chains_of s)) c.args.i ≡ Some c.may_follow.result in
-    subst P (sym c.in-Coverage.is) (λ lt. test_there next coverage_chain c.as_slice-in-Coverage.result.now c.in-Coverage.rules c.args.i c.index-as_slice-i-in-Coverage.result c.may_follow.result lt c.as_slice-in-Coverage.ensures c.index-as_slice-i-in-Coverage.is (c.may_follow.ensures ∙ ap (may_follow next) c.coverage_rule.ensures)) c.requires
+    let P : ContextSubtable → Type 0 = λ s. c.args.i < length (chains_of s) → slice_get (map (may_follow next) (chains_of s)) c.args.i ≡ Some c.coverages_may_follow.result in
+    subst P (sym c.in-Coverage.is) (λ lt. test_there next coverage_chain c.as_slice-in-Coverage.result.now c.in-Coverage.rules c.args.i c.index-as_slice-i-in-Coverage.result c.coverages_may_follow.result lt c.as_slice-in-Coverage.ensures c.index-as_slice-i-in-Coverage.is c.coverages_may_follow.ensures) c.requires
