@@ -1,5 +1,5 @@
 //! The rules of a context subtable, in any of its formats (OpenType, chapter 2, sequence context formats 1 to 3).
-ghost use Rattle.std.specs.Prelude.{◌≡◌, ◌<◌, length, map, slice_get, Some};
+ghost use Rattle.std.specs.Prelude.{◌≡◌, ◌<◌, false, length, map, slice_get, Some};
 ghost use Rattle.buffer_glyphs.specs.Items.{item_of};
 ghost use Rattle.layout_contexts.specs.Chains.{class_chain, coverage_chain, glyph_chain};
 ghost use Rattle.layout_contexts.specs.Fitting.{chain_of};
@@ -107,34 +107,20 @@ fn classes_may_follow(rules: &ClassRules, rule: &ItemRule, next: &NextGlyphs) ->
     true
 }
 
-/// Whether a rule by sets of glyphs may match by the glyph after the cursor, as one by glyphs.
-#[tactic(auto, using(crate::proofs::Followed::second_input, crate::proofs::Followed::first_lookahead, crate::proofs::Followed::alone))]
-fn coverages_may_follow(rule: &SequenceRule<Coverage>, next: &NextGlyphs) -> bool
-    ensures { result ≡ may_follow next.now (coverage_chain rule.now) }
-{
-    let input = MatchSequence::Coverages(rule.input.as_slice());
-    if input.len() > 1 {
-        return next.input.may_fit(&input, 1);
-    }
-    let lookahead = MatchSequence::Coverages(rule.lookahead.as_slice());
-    if lookahead.len() > 0 {
-        return next.lookahead.may_fit(&lookahead, 0);
-    }
-    true
-}
-
 /// Whether the rule at an index among those of a subtable, which begins with the glyph at the cursor, may match by the
-/// one after it. Of the rule it takes only the sequence with the item that it tests: most rules are passed over by it.
+/// one after it: false only where it can't. Of the rule it takes only the sequence with the item that it tests: most rules
+/// are passed over by it.
 pub fn may_follow_at(subtable: &ContextSubtable, i: usize, next: &NextGlyphs) -> bool
     requires { i < length (chains_of subtable.now) }
-    ensures { slice_get (map (may_follow next.now) (chains_of subtable.now)) i ≡ Some result }
+    ensures { result ≡ false → slice_get (map (may_follow next.now) (chains_of subtable.now)) i ≡ Some false }
 {
     match subtable {
         ContextSubtable::Glyphs(rules) => glyphs_may_follow(&rules.as_slice()[i], next),
         ContextSubtable::Classes(rules) => {
             classes_may_follow(rules, &rules.rules.as_slice()[i], next)
         }
-        ContextSubtable::Coverage(rules) => coverages_may_follow(&rules.as_slice()[i], next),
+        // A subtable of format 3 has one rule, for which the next glyph isn't looked for.
+        ContextSubtable::Coverage(_) => true,
     }
 }
 

@@ -69,10 +69,10 @@ one_there xs k lt (inl is) = (is.0, is.2)
 one_there xs k lt (inr past) = absurd (omega (arith, lt, past.0))
 
 -- the rule at an index is passed over where its test excludes it
-pub passed_over_at : (nest : Option (ℕ → Action)) (a : ApplyContext) (all : List Chain) (next : NextGlyphs) (follows : Bool) (k r : ℕ) (start now : Sides) → k < length all → slice_get (map (may_follow next) all) k ≡ Some follows → follows ≡ false → AreNext next a start
+pub passed_over_at : (nest : Option (ℕ → Action)) (a : ApplyContext) (all : List Chain) (next : NextGlyphs) (k r : ℕ) (start now : Sides) → k < length all → slice_get (map (may_follow next) all) k ≡ Some false → AreNext next a start
     → ArePassed (chain_rule nest a) all (drop k all) r start now → ArePassed (chain_rule nest a) all (drop (k + 1) all) r start now
-passed_over_at nest a all next follows k r start now lt told none are t =
+passed_over_at nest a all next k r start now lt told are t =
     let there = one_there all k lt (slice_get_cases all k).1 in
-    let P : Option Chain → Type 0 = λ o. option_map (may_follow next) o ≡ Some follows in
-    let follows_is : may_follow next there.0 ≡ follows = same_Some _ _ (subst P there.1 (sym (slice_get-map (may_follow next) all k) ∙ told)) in
-    passed_over nest a all there.0 next k r start now there.1 (follows_is ∙ none) are t
+    let P : Option Chain → Type 0 = λ o. option_map (may_follow next) o ≡ Some false in
+    let excluded : may_follow next there.0 ≡ false = same_Some _ _ (subst P there.1 (sym (slice_get-map (may_follow next) all k) ∙ told)) in
+    passed_over nest a all there.0 next k r start now there.1 excluded are t
