@@ -68,7 +68,7 @@ slot_names number rows slots first last k slot dense le at =
     let here = dense.found (k - first) (slice_get_within slots (k - first) slot at) in
     same_record (record_in rows) (slice_get slots (k - first)) slot (row_of number k rows) at (rw whole at (rw from at here))
 
-equal_number : (a b : ℕ) → a ≡ b → is_eq (nat_cmp a b) ≡ true
+pub equal_number : (a b : ℕ) → a ≡ b → is_eq (nat_cmp a b) ≡ true
 equal_number a b h = grind (arith, nat_tests)
 
 -- a record whose number is the wanted one is its record

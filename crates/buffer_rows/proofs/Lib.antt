@@ -6,3 +6,5 @@ pub mod StableSort
 pub mod Orders
 pub mod Filled
 pub mod Replaced
+pub mod Inserted
+pub mod Slotted

@@ -13,7 +13,7 @@ module _ {R K : Type 0} (order : K → K → Ordering) (total : IsTotalOrder ord
   above_alike None x y e = refl
   above_alike (Some b) x y e = ap is_lt (sym (alike_right total x y b e))
 
-  rising_alike : (x y : K) (rows : List R) → order x y ≡ Equal → is_rising order key (Some y) rows ≡ is_rising order key (Some x) rows
+  pub rising_alike : (x y : K) (rows : List R) → order x y ≡ Equal → is_rising order key (Some y) rows ≡ is_rising order key (Some x) rows
   rising_alike x y [] e = refl
   rising_alike x y (r ∷ rows) e = ap (λ o. is_lt o && is_rising order key (Some (key r)) rows) (sym (total.congr x y (key r) e))
 

@@ -64,7 +64,7 @@ module _ {R K : Type 0} (order : K → K → Ordering) (total : IsTotalOrder ord
   rising_pair before (r ∷ rows) (suc i) d rising h = rising_pair (Some (key r)) rows i d ((both_parts _ _ rising).1) (omega (arith, h))
 
   -- the comparisons with a key rise along the records
-  comparisons_rise : (before : Option K) (rows : List R) (k : K) → is_rising order key before rows ≡ true → IsNonDecreasingBy (λ r. ordering_index (order (key r) k)) rows
+  pub comparisons_rise : (before : Option K) (rows : List R) (k : K) → is_rising order key before rows ≡ true → IsNonDecreasingBy (λ r. ordering_index (order (key r) k)) rows
   comparisons_rise before rows k rising = searchable_from_sorted total key rows k (λ i d low high. let near : suc i < length rows = omega (arith, high) in rw add-one (not_back order total _ _ (rising_pair before rows i d rising near)))
 
   -- the record at the index that a search gives, or none, is the record of the key

@@ -1,7 +1,7 @@
 -- Records in the strict order of their keys.
-use Rattle.std.specs.Prelude.{ℕ, ◌&&◌, ◌==◌, if◌then◌else◌, Bool, true, List, [], ◌∷◌, map, Option, Some, None, find}
+use Rattle.std.specs.Prelude.{ℕ, ◌&&◌, ◌==◌, if◌then◌else◌, Bool, true, List, [], ◌∷◌, ◌++◌, map, filter, Option, Some, None, find}
 use Rattle.std.specs.declared.cmp.Ordering.{Ordering}
-use Rattle.std.specs.Ordering.{is_lt, is_eq, nat_cmp}
+use Rattle.std.specs.Ordering.{is_lt, is_gt, is_eq, nat_cmp}
 
 -- whether a key is greater than the one before it, if there is one
 abbrev pub is_above : {K : Type 0} → (K → K → Ordering) → Option K → K → Bool
@@ -20,6 +20,22 @@ row_with order key k rows = find (λ r. is_eq (order (key r) k)) rows
 -- the records with another in the place of that of its key
 abbrev pub with_row : {R K : Type 0} → (K → K → Ordering) → (R → K) → R → List R → List R
 with_row order key row rows = map (λ r. if is_eq (order (key r) (key row)) then row else r) rows
+
+-- the records of lesser keys
+abbrev pub rows_below : {R K : Type 0} → (K → K → Ordering) → (R → K) → K → List R → List R
+rows_below order key k rows = filter (λ r. is_lt (order (key r) k)) rows
+
+-- the records of greater keys
+abbrev pub rows_above : {R K : Type 0} → (K → K → Ordering) → (R → K) → K → List R → List R
+rows_above order key k rows = filter (λ r. is_gt (order (key r) k)) rows
+
+-- the records with another between those of lesser and of greater keys, in the place of that of its key if there is one
+abbrev pub with_inserted : {R K : Type 0} → (K → K → Ordering) → (R → K) → R → List R → List R
+with_inserted order key row rows = rows_below order key (key row) rows ++ row ∷ rows_above order key (key row) rows
+
+-- the records of all other keys
+abbrev pub without_key : {R K : Type 0} → (K → K → Ordering) → (R → K) → K → List R → List R
+without_key order key k rows = rows_below order key k rows ++ rows_above order key k rows
 
 -- ---- keys that are numbers
 

@@ -1,5 +1,5 @@
 //! Records that are found by a number.
-ghost use Rattle.std.specs.Prelude.{◌≡◌, ℕ, true};
+ghost use Rattle.std.specs.Prelude.{◌≡◌, ◌≢◌, ◌<◌, ℕ, false, get_or, length, true};
 ghost use Rattle.buffer_rows.specs.Keys.{numbers_rise, row_of};
 ghost use Rattle.buffer_rows.specs.Pages.{IsStart};
 
@@ -40,5 +40,17 @@ pub(crate) fn find_number_near<R: Numbered>(rows: &[R], number: u32, guess: usiz
     match rows.get(guess) {
         Some(row) if row.number() == number => Some(*row),
         _ => find_number(rows, number),
+    }
+}
+
+/// Whether the record at an index has a number.
+pub(crate) fn is_number_at<R: Numbered>(rows: &[R], index: usize, number: u32) -> bool
+    ensures there { result ≡ true → index < length rows.now }
+    ensures same { result ≡ true → (d : R) → R.number_of (get_or rows.now index d) ≡ number }
+    ensures other { result ≡ false → index < length rows.now → (d : R) → R.number_of (get_or rows.now index d) ≢ number }
+{
+    match rows.get(index) {
+        Some(row) => row.number() == number,
+        None => false,
     }
 }

@@ -1,12 +1,14 @@
 //! A table of records in the strict order of their numbers, with an index of its pages.
-ghost use Rattle.std.specs.Prelude.{◌≡◌, ◌≤◌, ◌<◌, ◌+◌, ◌%◌, ◌^◌, true, IfOk, length};
-ghost use Rattle.buffer_rows.specs.Keys.{numbers_rise, row_of};
+ghost use Rattle.std.specs.Prelude.{◌≡◌, ◌≤◌, ◌<◌, ◌+◌, ◌%◌, ◌^◌, true, IfOk, OnErr, OnOk, length};
+ghost use Rattle.std.specs.Ordering.{nat_cmp};
+ghost use Rattle.buffer_rows.specs.Keys.{numbers_rise, row_of, with_inserted, without_key};
 ghost use Rattle.buffer_rows.specs.Pages.{ArePages, Extends, IsPage, IsStart};
 
-use crate::numbered::{Numbered, find_number};
+use crate::numbered::{Numbered, find_number, first_from, is_number_at};
 use crate::slots::{are_above, entry, push_slots, record_in};
 use std::alloc::{AllocError, Global};
 use std::marker::Model;
+use std::mem;
 
 /// How many numbers a page has.
 const PAGE: u32 = 128;
@@ -81,6 +83,47 @@ impl<R: Numbered> PagedRows<R> {
         ensures { result.now ≡ self.now }
     {
         &self.rows
+    }
+
+    /// Inserts a record: in the place of that of its number in logarithmic time, else in linear time. Where a record is
+    /// added the index is emptied: until `index` is called, records are found by binary search.
+    pub fn insert(&mut self, row: R) -> Result<(), AllocError>
+        ensures inserted { OnOk result (self.new ≡ with_inserted nat_cmp R.number_of row self.old) }
+        ensures kept { OnErr result (self.new ≡ self.old) }
+    {
+        let number = row.number();
+        let index = first_from(&self.rows, number);
+        if is_number_at(&self.rows, index, number) {
+            self.rows[index] = row;
+            return Ok(());
+        }
+        self.rows.insert(index, row)?;
+        self.pages.clear();
+        self.slots.clear();
+        Ok(())
+    }
+
+    /// Removes the record of a number, if there is one, in linear time. Then the index is emptied: until `index` is
+    /// called, records are found by binary search.
+    pub fn remove(&mut self, number: u32)
+        ensures { self.new ≡ without_key nat_cmp R.number_of number self.old }
+    {
+        let index = first_from(&self.rows, number);
+        if is_number_at(&self.rows, index, number) {
+            self.rows.remove(index);
+            self.pages.clear();
+            self.slots.clear();
+        }
+    }
+
+    /// Makes the index, as `new` does, of the records as they are. For want of memory it stays as it was.
+    pub fn index(&mut self, alloc: Global) -> Result<(), AllocError>
+        ensures { self.new ≡ self.old }
+    {
+        let Index { pages, slots } = index_of(alloc, &self.rows)?;
+        drop(mem::replace(&mut self.pages, pages));
+        drop(mem::replace(&mut self.slots, slots));
+        Ok(())
     }
 }
 

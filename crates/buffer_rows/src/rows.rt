@@ -1,9 +1,10 @@
 //! A table of records in the strict order of their keys.
-ghost use Rattle.std.specs.Prelude.{◌≡◌, None, is_some, true};
+ghost use Rattle.std.specs.Prelude.{◌≡◌, None, OnErr, OnOk, is_some, true};
 ghost use Rattle.std.specs.Option.{option_copied};
-ghost use Rattle.buffer_rows.specs.Keys.{is_rising, row_with, with_row};
+ghost use Rattle.buffer_rows.specs.Keys.{is_rising, row_with, with_inserted, with_row, without_key};
 
-use crate::keyed::{Keyed, find_index, find_row, find_row_near};
+use crate::keyed::{Keyed, find_index, find_row, find_row_near, insert_row, remove_row};
+use std::alloc::AllocError;
 use std::marker::Model;
 
 /// Records whose keys rise strictly, each found by its key.
@@ -83,5 +84,20 @@ impl<R: Keyed + Copy> SortedRows<R> {
             }
             None => false,
         }
+    }
+
+    /// Inserts a record, in the place of that of its key if there is one, in linear time.
+    pub fn insert(&mut self, row: R) -> Result<(), AllocError>
+        ensures inserted { OnOk result (self.new ≡ with_inserted R.Key.cmp R.key_of row self.old) }
+        ensures kept { OnErr result (self.new ≡ self.old) }
+    {
+        insert_row(&mut self.rows, row)
+    }
+
+    /// Removes the record of a key, if there is one, in linear time.
+    pub fn remove(&mut self, key: R::Key)
+        ensures { self.new ≡ without_key R.Key.cmp R.key_of key self.old }
+    {
+        remove_row(&mut self.rows, key);
     }
 }
