@@ -1,2 +1,4 @@
 pub mod Fitting
 pub mod VariationSearch
+pub mod CharacterMap
+pub mod MapLaws

@@ -1,6 +1,7 @@
 pub mod LookupIndices
 pub mod Lookups
 pub mod Glyphs
+pub mod CharacterMap
 pub mod Indices
 pub mod Names
 pub mod WouldApply

@@ -1,16 +1,18 @@
 //! The font's data that shaping reads (rustybuzz: hb/face.rs).
-ghost use Rattle.std.specs.Prelude.{◌≡◌, true, is_some, neg_ℤ, pos, ◌/◌};
+ghost use Rattle.std.specs.Prelude.{◌≡◌, true, OnErr, OnOk, is_some, neg_ℤ, pos, ◌/◌};
 ghost use Rattle.std.specs.Option.{option_copied};
 ghost use Rattle.layout_common.specs.Classes.{class_of};
 ghost use Rattle.layout_common.specs.Rows.{value_of, with_value};
+ghost use Rattle.layout_face.specs.CharacterMap.{with_nominal_glyph, with_variation_glyph};
 ghost use Rattle.layout_face.specs.Indices.{indices_fit};
 ghost use Rattle.layout_face.specs.Glyphs.{nominal_glyph, variation_glyph, width_of, height_of, origin_of, name_of, mark_set_has, glyph_class};
 
-use crate::parts::{FaceParts, GlyphDefinition};
+use crate::parts::{CharacterRow, FaceParts, GlyphDefinition, VariationRow};
 use crate::positioning::PositioningTable;
 use crate::substitution::SubstitutionTable;
 use buffer_glyphs::names::hb_glyph_extents_t;
 use layout_common::glyph_row::{find_value, set_value};
+use std::alloc::{AllocError, Global};
 use std::marker::Model;
 
 /// A font. Lengths are in font units, y grows upward.
@@ -102,6 +104,59 @@ impl Face {
             Some(row) => Some(row.glyph),
             None => None,
         }
+    }
+
+    /// Sets the glyph of a character, as a client's own character map gives it, or takes it away. The glyphs of variation
+    /// sequences stay. Where the font gives the character no glyph yet, or loses it, characters are found by binary search
+    /// until `index_characters` is called.
+    #[tactic(auto, using(crate::proofs::CharacterMap::character_inserted, crate::proofs::CharacterMap::character_removed))]
+    pub fn set_nominal_glyph(&mut self, c: char, glyph: Option<u16>) -> Result<(), AllocError>
+        ensures set { OnOk result (self.new ≡ with_nominal_glyph c glyph self.old) }
+        ensures kept { OnErr result (self.new ≡ self.old) }
+    {
+        match glyph {
+            Some(glyph) => self.parts.cmap.insert(CharacterRow {
+                character: c,
+                glyph,
+            }),
+            None => {
+                self.parts.cmap.remove(u32::from(c));
+                Ok(())
+            }
+        }
+    }
+
+    /// Sets the glyph of a character with a variation selector, as a client's own character map gives it, or takes it
+    /// away.
+    #[tactic(auto, using(crate::proofs::CharacterMap::variation_inserted, crate::proofs::CharacterMap::variation_removed))]
+    pub fn set_variation_glyph(
+        &mut self,
+        c: char,
+        selector: char,
+        glyph: Option<u16>,
+    ) -> Result<(), AllocError>
+        ensures set { OnOk result (self.new ≡ with_variation_glyph c selector glyph self.old) }
+        ensures kept { OnErr result (self.new ≡ self.old) }
+    {
+        match glyph {
+            Some(glyph) => self.parts.variants.insert(VariationRow {
+                character: c,
+                selector,
+                glyph,
+            }),
+            None => {
+                self.parts.variants.remove((c, selector));
+                Ok(())
+            }
+        }
+    }
+
+    /// Makes the index of the font's characters again, after some were added or taken away: each is then found at once. It
+    /// takes at most 273 KB; for want of memory it stays as it was.
+    pub fn index_characters(&mut self, alloc: Global) -> Result<(), AllocError>
+        ensures { self.new ≡ self.old }
+    {
+        self.parts.cmap.index(alloc)
     }
 
     /// The advance of a glyph in a horizontal line, in font units: its width, 0 where the font gives none.

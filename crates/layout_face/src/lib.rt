@@ -3,6 +3,7 @@
 #![tactic(auto)]
 
 pub mod face;
+pub mod laws;
 pub mod layout;
 mod lookup_indices;
 mod names;

@@ -12,7 +12,7 @@ use std::process::Abort;
 use std::test::Fail;
 
 /// The font with an index of the collection.
-fn font(alloc: Global, index: usize, parts: FontParts) -> Result<Face, Fail> {
+pub(crate) fn font(alloc: Global, index: usize, parts: FontParts) -> Result<Face, Fail> {
     match read_font(alloc, &COLLECTION, index, parts) {
         Ok(face) => Ok(face),
         Err(_fault) => Err("refused".into()),

@@ -9,6 +9,8 @@ mod bytes;
 #[cfg(test)]
 mod cff;
 #[cfg(test)]
+mod character_map;
+#[cfg(test)]
 mod cmap;
 #[cfg(test)]
 mod contexts;
