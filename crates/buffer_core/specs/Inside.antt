@@ -28,6 +28,7 @@ sides_of b = record {
   post_context = b.post_context.items;
   invisible = number_set b.invisible;
   not_found_variation_selector = number_set b.not_found_variation_selector;
+  not_found = b.not_found.0;
   scratch_flags = b.scratch_flags;
   flags = b.flags;
 }

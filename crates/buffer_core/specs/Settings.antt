@@ -28,6 +28,10 @@ with_invisible g s = record s { invisible = g }
 abbrev pub with_not_found_variation_selector : Option ℕ → Sides → Sides
 with_not_found_variation_selector g s = record s { not_found_variation_selector = g }
 
+-- a buffer with another glyph for characters that the font lacks
+abbrev pub with_not_found : ℕ → Sides → Sides
+with_not_found g s = record s { not_found = g }
+
 -- the ligature number after another: 1 to 7, and then again 1 (`allocate_lig_id`)
 abbrev pub next_lig_id : ℕ → ℕ
 next_lig_id n = if nat_lt n 7 then n + 1 else 1

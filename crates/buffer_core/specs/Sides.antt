@@ -41,6 +41,8 @@ pub record Sides : Type 0 where
   -- the glyphs that replace invisible characters, and variation selectors that the font does not support
   pub invisible : Option ℕ
   pub not_found_variation_selector : Option ℕ
+  -- the glyph of characters that the font lacks
+  pub not_found : ℕ
   -- the flags that the stages of shaping set for each other
   pub scratch_flags : ℕ
   -- the requests for the shaping (`hb_buffer_flags_t`)
@@ -101,6 +103,7 @@ pub record Settings : Type 0 where
   pub post_context : List ℕ
   pub invisible : Option ℕ
   pub not_found_variation_selector : Option ℕ
+  pub not_found : ℕ
   pub flags : BufferFlags
 
 -- the settings of a buffer
@@ -113,6 +116,7 @@ settings_of s = record {
   post_context = s.post_context;
   invisible = s.invisible;
   not_found_variation_selector = s.not_found_variation_selector;
+  not_found = s.not_found;
   flags = s.flags;
 }
 
@@ -141,6 +145,7 @@ empty_buffer = record {
   post_context = [];
   invisible = None;
   not_found_variation_selector = None;
+  not_found = 0;
   scratch_flags = 0;
   flags = record { 0 = 0 };
 }

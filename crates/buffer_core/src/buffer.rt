@@ -73,6 +73,7 @@ pub struct hb_buffer_t {
     post_context: ArrayVec<char, 5>,
     invisible: Option<GlyphId>,
     not_found_variation_selector: Option<GlyphId>,
+    not_found: GlyphId,
     scratch_flags: hb_buffer_scratch_flags_t,
     flags: BufferFlags,
     // What is known of the order of clusters, so that a merge need not walk the whole list.
@@ -135,6 +136,7 @@ impl hb_buffer_t {
             post_context: ArrayVec::new(),
             invisible: None,
             not_found_variation_selector: None,
+            not_found: GlyphId(0),
             scratch_flags: HB_BUFFER_SCRATCH_FLAG_DEFAULT,
             flags: BufferFlags::default(),
             order: ClusterOrder::of(KnownOrder::Rising),
@@ -165,6 +167,7 @@ impl hb_buffer_t {
         self.post_context.clear();
         self.invisible = None;
         self.not_found_variation_selector = None;
+        self.not_found = GlyphId(0);
         self.scratch_flags = HB_BUFFER_SCRATCH_FLAG_DEFAULT;
         self.flags = BufferFlags::default();
         self.order = ClusterOrder::of(KnownOrder::Rising);

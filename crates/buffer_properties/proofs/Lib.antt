@@ -11,3 +11,4 @@ pub mod Sorted
 pub mod Composed
 pub mod Preserved
 pub mod Short
+pub mod Missing

@@ -28,10 +28,10 @@ hyphen_glyph c x = if x.number == 0x2011 then c.glyph_of 0x2010 else None
 
 -- a character that the font lacks and that isn't split: a space keeps its type instead of a class
 abbrev pub with_glyph_of_space : Normalizer → Item → Option ℕ → Item
-with_glyph_of_space c x None = with_glyph (unwrap_or (hyphen_glyph c x) 0) x
+with_glyph_of_space c x None = with_glyph (unwrap_or (hyphen_glyph c x) c.not_found) x
 with_glyph_of_space c x (Some g) = record x { glyph_index = g; class = space_fallback_of x.number }
 
--- a character that stays whole: with its own glyph, else another's, else glyph 0
+-- a character that stays whole: with its own glyph, else another's, else the not-found glyph
 abbrev pub with_found_glyph : Normalizer → Item → Option ℕ → Item
 with_found_glyph c x None = with_glyph_of_space c x (space_glyph c x)
 with_found_glyph c x (Some g) = with_glyph g x

@@ -1,5 +1,6 @@
 -- Laws of the normalised list.
-use Rattle.std.specs.Prelude.{ℕ, ◌≡◌, ◌↔◌, List}
+use Rattle.std.specs.Prelude.{ℕ, ◌≡◌, ◌↔◌, true, List}
+use Rattle.std.specs.List.{list_all}
 use Rattle.buffer_unicode_tables.specs.Expansion.{EndWithin}
 use Rattle.buffer_unicode_tables.specs.Lawful.{IsLawful}
 use Rattle.buffer_unicode_tables.specs.Tables.{Tables, split_of, class_of}
@@ -8,7 +9,7 @@ use Rattle.buffer_glyphs.specs.Items.{Item}
 use Rattle.buffer_properties.specs.Characters.{mark_class, characters_of, items_of_text}
 use Rattle.buffer_properties.specs.Expanding.{expanded_list}
 use Rattle.buffer_properties.specs.NormalizedList.{normalized_items}
-use Rattle.buffer_properties.specs.Normalizer.{Normalizer}
+use Rattle.buffer_properties.specs.Normalizer.{Normalizer, has_character}
 use Rattle.buffer_properties.specs.Premises.{SplitsAsUnicode, ComposesWithinUnicode, ReordersNothing, ExpandsGreatest, HasNoSelector, HasShortRuns, IsRegular}
 
 -- under lawful tables, equivalent texts have the same normalised list
@@ -31,3 +32,11 @@ NormalizingKeepsEquivalence = (c : Normalizer) (x : Item) (us : List ℕ) → Is
 abbrev pub ExpansionKeepsRunsShort : Type 0
 ExpansionKeepsRunsShort = (c : Normalizer) (x : Item) (us : List ℕ) → EndWithin (split_of c.tables) 8 → IsLawful c.tables → SplitsAsUnicode c → HasNoSelector us
     → HasShortRuns (class_of c.tables) 0 (full_text c.tables us) → HasShortRuns mark_class 0 (expanded_list c (items_of_text c.tables x us)).items
+
+-- a normaliser with another glyph for characters that the font lacks
+abbrev pub with_not_found : ℕ → Normalizer → Normalizer
+with_not_found glyph c = record c { not_found = glyph }
+
+-- characters that the font has expand alike, whichever glyph those have that it lacks
+abbrev pub NotFoundIsOfMissing : Type 0
+NotFoundIsOfMissing = (c : Normalizer) (glyph : ℕ) (xs : List Item) → list_all (λ x. has_character c x.number) xs ≡ true → expanded_list (with_not_found glyph c) xs ≡ expanded_list c xs

@@ -18,6 +18,8 @@ pub record Normalizer : Type 0 where
   -- the glyphs for invisible characters, and for variation selectors that the font doesn't join
   pub invisible : Option ℕ
   pub unjoined_glyph : Option ℕ
+  -- the glyph of characters that the font lacks
+  pub not_found : ℕ
   -- how characters split and compose, and what the shaper makes of a sorted run of combining marks
   pub splits : Splits
   pub composes : ℕ → ℕ → Option ℕ

@@ -1,5 +1,5 @@
 //! Laws of equivalent texts and of the normalised list.
-ghost use Rattle.buffer_properties.specs.NormalLaws.{EquivalenceIsOneOrder, EquivalentsNormalizeAlike, ExpansionKeepsRunsShort, NormalizingKeepsEquivalence};
+ghost use Rattle.buffer_properties.specs.NormalLaws.{EquivalenceIsOneOrder, EquivalentsNormalizeAlike, ExpansionKeepsRunsShort, NormalizingKeepsEquivalence, NotFoundIsOfMissing};
 
 /// Under lawful tables, texts are equivalent exactly where their full expansions have one class order.
 #[tactic(auto, using(crate::proofs::Preserved::equivalence_is_one_order))]
@@ -27,4 +27,10 @@ pub fn law_normalizing_keeps_equivalence()
 #[tactic(auto, using(crate::proofs::Short::expansion_keeps_runs_short))]
 pub fn law_expansion_keeps_runs_short()
     ensures { ExpansionKeepsRunsShort }
+{}
+
+/// The not-found glyph changes nothing of characters that the font has.
+#[tactic(auto, using(crate::proofs::Missing::not_found_is_of_missing))]
+pub fn law_not_found_is_of_missing()
+    ensures { NotFoundIsOfMissing }
 {}

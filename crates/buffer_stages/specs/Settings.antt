@@ -14,6 +14,8 @@ pub record TextSettings : Type 0 where
   -- the glyphs that replace invisible characters, and variation selectors that the font does not support
   pub invisible : Option ℕ
   pub not_found_variation_selector : Option ℕ
+  -- the glyph of characters that the font lacks
+  pub not_found : ℕ
   pub flags : BufferFlags
 
 -- the requests without those for glyph flags: PRODUCE_UNSAFE_TO_CONCAT (64), PRODUCE_SAFE_TO_INSERT_TATWEEL (128) and
@@ -29,6 +31,7 @@ text_settings_of s = record {
   post_context = s.post_context;
   invisible = s.invisible;
   not_found_variation_selector = s.not_found_variation_selector;
+  not_found = s.not_found;
   flags = text_flags s.flags;
 }
 

@@ -4,7 +4,7 @@ ghost use Rattle.std.specs.Option.{option_copied};
 ghost use Rattle.std.specs.Str.{chars};
 ghost use Rattle.buffer_common.specs.declared.script.TheConstants.{UNKNOWN};
 ghost use Rattle.buffer_core.specs.Sides.{empty_buffer, all_glyphs, with_added, has_room, with_flags, with_level};
-ghost use Rattle.buffer_core.specs.Settings.{with_reset_clusters, with_invisible, with_language, with_not_found_variation_selector, with_post_context, with_pre_context};
+ghost use Rattle.buffer_core.specs.Settings.{with_reset_clusters, with_invisible, with_language, with_not_found, with_not_found_variation_selector, with_post_context, with_pre_context};
 ghost use Rattle.buffer_wrappers.specs.Wrappers.{IsText};
 ghost use Rattle.buffer_core.specs.Segment.{after_guess_segment_properties, guessed_direction, guessed_script, with_segment};
 ghost use Rattle.buffer_core.specs.Text.{added_glyph, added_text, fits_text};
@@ -181,6 +181,13 @@ impl UnicodeBuffer {
         ensures { self.new ≡ with_not_found_variation_selector (Some glyph.0) self.old }
     {
         self.buffer.set_not_found_variation_selector(Some(glyph));
+    }
+
+    /// Sets the glyph of a character that the font lacks and that isn't decomposed; glyph 0 (.notdef) where none is set.
+    pub fn set_not_found_glyph(&mut self, glyph: GlyphId)
+        ensures { self.new ≡ with_not_found glyph.0 self.old }
+    {
+        self.buffer.set_not_found(glyph);
     }
 
     /// Sets the clusters of the characters to 0, 1, 2 and so on; those past `u32::MAX` get that number.

@@ -83,6 +83,7 @@ framed v st opened refused = record {
   post_context = st.post_context;
   invisible = st.invisible;
   not_found_variation_selector = st.not_found_variation_selector;
+  not_found = st.not_found;
   scratch_flags = v.scratch_flags;
   flags = st.flags;
 }

@@ -132,7 +132,7 @@ pub(crate) fn whole_of<N: Normalizing>(
             ..*info
         };
     }
-    let glyph_index = hyphen_glyph(by, info).unwrap_or(0);
+    let glyph_index = hyphen_glyph(by, info).unwrap_or(by.not_found());
     hb_glyph_info_t {
         glyph_index,
         ..*info

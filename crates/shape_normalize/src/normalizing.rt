@@ -39,6 +39,10 @@ pub trait Normalizing {
     fn unjoined_glyph(&self) -> Option<u32>
         ensures { result ≡ (normalizer self.now).unjoined_glyph };
 
+    /// The glyph of a character that the font lacks.
+    fn not_found(&self) -> u32
+        ensures { result ≡ (normalizer self.now).not_found };
+
     /// The two halves of a character's decomposition; the second is U+0000 where there is only one.
     fn decompose(&self, ab: u32) -> Option<(char, char)>
         ensures { result ≡ (normalizer self.now).splits ab };

@@ -42,12 +42,13 @@ glyph_stage_refused (Err f) e stage old new h p = subst (λ (k : ShapeCause). k 
 -- ---- characters
 
 -- normalising knows the glyphs that are set in the buffer
-pub normal_as_set : {X : Type 0} (r : Result X ShapeCause) (q : Shaping) (i u : Option ℕ) (s new : Sides) → i ≡ q.settings.invisible → u ≡ q.settings.not_found_variation_selector
-    → DoesStage (normalization (record (normalizer q) { invisible = i; unjoined_glyph = u })) r s new → DoesStage (normalization (normalizer q)) r s new
-normal_as_set r q i u s new invisible unjoined h =
-    let P : Option ℕ → Type 0 = λ j. DoesStage (normalization (record (normalizer q) { invisible = j; unjoined_glyph = u })) r s new in
-    let R : Option ℕ → Type 0 = λ w. DoesStage (normalization (record (normalizer q) { unjoined_glyph = w })) r s new in
-    subst R unjoined (subst P invisible h)
+pub normal_as_set : {X : Type 0} (r : Result X ShapeCause) (q : Shaping) (i u : Option ℕ) (n : ℕ) (s new : Sides) → i ≡ q.settings.invisible → u ≡ q.settings.not_found_variation_selector → n ≡ q.settings.not_found
+    → DoesStage (normalization (record (normalizer q) { invisible = i; unjoined_glyph = u; not_found = n })) r s new → DoesStage (normalization (normalizer q)) r s new
+normal_as_set r q i u n s new invisible unjoined missing h =
+    let P : Option ℕ → Type 0 = λ j. DoesStage (normalization (record (normalizer q) { invisible = j; unjoined_glyph = u; not_found = n })) r s new in
+    let R : Option ℕ → Type 0 = λ w. DoesStage (normalization (record (normalizer q) { unjoined_glyph = w; not_found = n })) r s new in
+    let M : ℕ → Type 0 = λ m. DoesStage (normalization (record (normalizer q) { not_found = m })) r s new in
+    subst M missing (subst R unjoined (subst P invisible h))
 
 abbrev normalized : Shaping → Stage
 normalized q v = normalization (normalizer q) v

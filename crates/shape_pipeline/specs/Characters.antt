@@ -38,6 +38,7 @@ normalizer p = record {
   variant_of = λ u s. if scalar u && scalar s then variation_glyph u s p.font else None;
   invisible = p.settings.invisible;
   unjoined_glyph = p.settings.not_found_variation_selector;
+  not_found = p.settings.not_found;
   splits = λ u. if scalar u then p.rules.splits p.tables u else None;
   composes = λ a b. if scalar a && scalar b then p.rules.composes p.tables a b else None;
   reorders = p.rules.reorders;

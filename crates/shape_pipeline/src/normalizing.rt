@@ -20,6 +20,7 @@ pub struct PlanNormalizing<'a, S: hb_ot_shaper_t> {
     pub tables: &'a UnicodeTables,
     pub invisible: Option<GlyphId>,
     pub unjoined_glyph: Option<GlyphId>,
+    pub not_found: GlyphId,
 }
 
 fn glyph_number(glyph: Option<GlyphId>) -> Option<u32>
@@ -44,6 +45,7 @@ impl<S: hb_ot_shaper_t> Normalizing for PlanNormalizing<'_, S> {
       variant_of = λ u s. if scalar u && scalar s then variation_glyph u s n.face.now else None;
       invisible = number_set n.invisible;
       unjoined_glyph = number_set n.unjoined_glyph;
+      not_found = n.not_found.0;
       splits = λ u. if scalar u then (S.rules n.shaper.now n.plan.now).splits n.tables.now u else None;
       composes = λ a b. if scalar a && scalar b then (S.rules n.shaper.now n.plan.now).composes n.tables.now a b else
           None;
@@ -82,6 +84,10 @@ impl<S: hb_ot_shaper_t> Normalizing for PlanNormalizing<'_, S> {
 
     fn unjoined_glyph(&self) -> Option<u32> {
         glyph_number(self.unjoined_glyph)
+    }
+
+    fn not_found(&self) -> u32 {
+        u32::from(self.not_found.0)
     }
 
     fn decompose(&self, ab: u32) -> Option<(char, char)> {

@@ -214,6 +214,7 @@ impl<S: hb_ot_shaper_t, P: SyllableSpans> ShapeStages<'_, S, P> {
             tables: self.tables,
             invisible: buffer.invisible(),
             unjoined_glyph: buffer.not_found_variation_selector(),
+            not_found: buffer.not_found(),
         };
         _hb_ot_shape_normalize(&by, self.alloc, buffer)
     }

@@ -133,6 +133,7 @@ fn set_fields(text: &mut UnicodeBuffer) {
     text.set_cluster_level(BufferClusterLevel::Characters);
     text.set_invisible_glyph(GlyphId(3));
     text.set_not_found_variation_selector_glyph(GlyphId(4));
+    text.set_not_found_glyph(GlyphId(5));
     text.set_pre_context("ab");
     text.set_post_context("cd");
     text.reset_clusters();
@@ -146,6 +147,7 @@ fn shows_fields(text: &UnicodeBuffer) -> bool {
 fn has_kept(buffer: &hb_buffer_t) -> bool {
     buffer.invisible() == Some(GlyphId(3))
         && buffer.not_found_variation_selector() == Some(GlyphId(4))
+        && buffer.not_found() == GlyphId(5)
         && buffer.pre_context() == ['b', 'a'].as_slice()
         && buffer.post_context() == ['c', 'd'].as_slice()
 }

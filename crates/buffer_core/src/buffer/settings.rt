@@ -2,7 +2,7 @@
 ghost use Rattle.std.specs.Prelude.{◌≡◌};
 ghost use Rattle.std.specs.Option.{option_copied};
 ghost use Rattle.buffer_core.specs.Sides.{with_flags, with_level, with_scratch_flags};
-ghost use Rattle.buffer_core.specs.Settings.{number_set, with_invisible, with_language, with_not_found_variation_selector};
+ghost use Rattle.buffer_core.specs.Settings.{number_set, with_invisible, with_language, with_not_found, with_not_found_variation_selector};
 
 use super::hb_buffer_t;
 use buffer_common::constants::{BufferFlags, hb_buffer_scratch_flags_t};
@@ -91,5 +91,18 @@ impl hb_buffer_t {
         ensures { self.new ≡ with_not_found_variation_selector (number_set glyph) self.old }
     {
         self.not_found_variation_selector = glyph;
+    }
+
+    /// The glyph of a character that the font lacks, 0 (.notdef) where none was set.
+    pub fn not_found(&self) -> GlyphId
+        ensures { result.0 ≡ self.now.not_found }
+    {
+        self.not_found
+    }
+
+    pub fn set_not_found(&mut self, glyph: GlyphId)
+        ensures { self.new ≡ with_not_found glyph.0 self.old }
+    {
+        self.not_found = glyph;
     }
 }

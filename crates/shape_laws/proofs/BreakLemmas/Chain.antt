@@ -117,8 +117,8 @@ stages_divide p p1 p2 c whole earlier later r e l h rewrites preprocesses knows 
     let e2 = own_state p1 earlier a in
     let l2 = own_state p2 later b in
     let turned = turned_divide p p1 p2 c w2 e2 l2 h own in
-    let early_same = normalizer_alike p p1 h.early_is (ap (λ (t : TextSettings). t.invisible) h.settings.early_is) (ap (λ (t : TextSettings). t.not_found_variation_selector) h.settings.early_is) in
-    let late_same = normalizer_alike p p2 h.late_is (ap (λ (t : TextSettings). t.invisible) h.settings.late_is) (ap (λ (t : TextSettings). t.not_found_variation_selector) h.settings.late_is) in
+    let early_same = normalizer_alike p p1 h.early_is (ap (λ (t : TextSettings). t.invisible) h.settings.early_is) (ap (λ (t : TextSettings). t.not_found_variation_selector) h.settings.early_is) (ap (λ (t : TextSettings). t.not_found) h.settings.early_is) in
+    let late_same = normalizer_alike p p2 h.late_is (ap (λ (t : TextSettings). t.invisible) h.settings.late_is) (ap (λ (t : TextSettings). t.not_found_variation_selector) h.settings.late_is) (ap (λ (t : TextSettings). t.not_found) h.settings.late_is) in
     let either : IsUnsafeAt c (turned_state p w2).origins ⊎ AreNormalizedApart (normalizer p) (turned_state p1 e2).view.items (turned_state p2 l2).view.items = elim (apart w a b) [
       | inl unsafe ↦ inl (turned_unsafe p c w2 own.breakable unsafe)
       | inr two ↦ inr two

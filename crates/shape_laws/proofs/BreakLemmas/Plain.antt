@@ -84,11 +84,12 @@ plain_read p s r rules e =
 pub plain_rules_have_no_stages : PlainRulesHaveNoStages
 plain_rules_have_no_stages = record { preprocesses = λ font t settings. refl; sets_masks = λ font t settings. refl; reorders = λ run given. (eventless_rewrite run given, refl) }
 
-pub normalizer_alike : (p q : Shaping) → q ≡ record p { settings = q.settings } → q.settings.invisible ≡ p.settings.invisible → q.settings.not_found_variation_selector ≡ p.settings.not_found_variation_selector → normalizer q ≡ normalizer p
-normalizer_alike p q e f g =
+pub normalizer_alike : (p q : Shaping) → q ≡ record p { settings = q.settings } → q.settings.invisible ≡ p.settings.invisible → q.settings.not_found_variation_selector ≡ p.settings.not_found_variation_selector → q.settings.not_found ≡ p.settings.not_found → normalizer q ≡ normalizer p
+normalizer_alike p q e f g h =
     ap normalizer e
-    ∙ ap (λ i. record (normalizer p) { invisible = i; unjoined_glyph = q.settings.not_found_variation_selector }) f
-    ∙ ap (λ i. record (normalizer p) { unjoined_glyph = i }) g
+    ∙ ap (λ i. record (normalizer p) { invisible = i; unjoined_glyph = q.settings.not_found_variation_selector; not_found = q.settings.not_found }) f
+    ∙ ap (λ i. record (normalizer p) { unjoined_glyph = i; not_found = q.settings.not_found }) g
+    ∙ ap (λ i. record (normalizer p) { not_found = i }) h
 
 pub fractions_stay : (p p1 p2 : Shaping) (c : ℕ) (whole earlier later : BufferState) → AreBrokenShapings p p1 p2 → StaysBroken c whole earlier later → StaysBroken c (fractions_state p whole) (fractions_state p1 earlier) (fractions_state p2 later)
 fractions_stay p p1 p2 c whole earlier later h stays =
@@ -114,8 +115,8 @@ plain_texts_divide p p1 p2 c whole earlier later r e l h rules knows ready broke
     let e1 = state_after ee.begun earlier in
     let l1 = state_after ll.begun later in
     let turned = turned_divide p p1 p2 c w1 e1 l1 h begun in
-    let early_same = normalizer_alike p p1 h.early_is (ap (λ (t : TextSettings). t.invisible) h.settings.early_is) (ap (λ (t : TextSettings). t.not_found_variation_selector) h.settings.early_is) in
-    let late_same = normalizer_alike p p2 h.late_is (ap (λ (t : TextSettings). t.invisible) h.settings.late_is) (ap (λ (t : TextSettings). t.not_found_variation_selector) h.settings.late_is) in
+    let early_same = normalizer_alike p p1 h.early_is (ap (λ (t : TextSettings). t.invisible) h.settings.early_is) (ap (λ (t : TextSettings). t.not_found_variation_selector) h.settings.early_is) (ap (λ (t : TextSettings). t.not_found) h.settings.early_is) in
+    let late_same = normalizer_alike p p2 h.late_is (ap (λ (t : TextSettings). t.invisible) h.settings.late_is) (ap (λ (t : TextSettings). t.not_found_variation_selector) h.settings.late_is) (ap (λ (t : TextSettings). t.not_found) h.settings.late_is) in
     let normal = normalizing_divides (normalizer p) c (turned_state p w1) (turned_state p1 e1) (turned_state p2 l1) rr.normal ee.normal ll.normal rules.reorders turned
     (λ j. apart ee.begun ll.begun ee.begun_is ll.begun_is) rr.normal_is
     (subst (λ (k : Normalizer). normalization k (turned_state p1 e1).view ≡ Ok ee.normal) early_same ee.normal_is) (subst (λ (k : Normalizer). normalization k (turned_state p2 l1).view ≡ Ok ll.normal) late_same ll.normal_is) in

@@ -155,8 +155,8 @@ apart_by k us (y ∷ ys) zs xs h ends may begins some early late = characters_ap
 
 pub raw_apart : CharactersNormalizeApart
 raw_apart p p1 p2 c whole earlier later h nothing keeps ends knows ready broken native may w e l =
-    let early_same = normalizer_alike p p1 h.early_is (ap (λ (t : TextSettings). t.invisible) h.settings.early_is) (ap (λ (t : TextSettings). t.not_found_variation_selector) h.settings.early_is) in
-    let late_same = normalizer_alike p p2 h.late_is (ap (λ (t : TextSettings). t.invisible) h.settings.late_is) (ap (λ (t : TextSettings). t.not_found_variation_selector) h.settings.late_is) in
+    let early_same = normalizer_alike p p1 h.early_is (ap (λ (t : TextSettings). t.invisible) h.settings.early_is) (ap (λ (t : TextSettings). t.not_found_variation_selector) h.settings.early_is) (ap (λ (t : TextSettings). t.not_found) h.settings.early_is) in
+    let late_same = normalizer_alike p p2 h.late_is (ap (λ (t : TextSettings). t.invisible) h.settings.late_is) (ap (λ (t : TextSettings). t.not_found_variation_selector) h.settings.late_is) (ap (λ (t : TextSettings). t.not_found) h.settings.late_is) in
     let early_nothing : PreprocessesNothing p1.rules = subst (λ (q : Shaping). PreprocessesNothing q.rules) (sym h.early_is) nothing in
     let late_nothing : PreprocessesNothing p2.rules = subst (λ (q : Shaping). PreprocessesNothing q.rules) (sym h.late_is) nothing in
     let early_script : p1.settings.script ≡ p.settings.script = ap (λ (t : TextSettings). t.script) h.settings.early_is in

@@ -233,8 +233,8 @@ mark_orders_keep_types (any.Script shaper) plan t = keeps_by shaper t
 
 pub characters_are_shown : CharactersAreShown
 characters_are_shown p p1 p2 c whole earlier later e l h nothing types orders one broken native shows =
-    let early_same = normalizer_alike p p1 h.early_is (ap (λ (t : TextSettings). t.invisible) h.settings.early_is) (ap (λ (t : TextSettings). t.not_found_variation_selector) h.settings.early_is) in
-    let late_same = normalizer_alike p p2 h.late_is (ap (λ (t : TextSettings). t.invisible) h.settings.late_is) (ap (λ (t : TextSettings). t.not_found_variation_selector) h.settings.late_is) in
+    let early_same = normalizer_alike p p1 h.early_is (ap (λ (t : TextSettings). t.invisible) h.settings.early_is) (ap (λ (t : TextSettings). t.not_found_variation_selector) h.settings.early_is) (ap (λ (t : TextSettings). t.not_found) h.settings.early_is) in
+    let late_same = normalizer_alike p p2 h.late_is (ap (λ (t : TextSettings). t.invisible) h.settings.late_is) (ap (λ (t : TextSettings). t.not_found_variation_selector) h.settings.late_is) (ap (λ (t : TextSettings). t.not_found) h.settings.late_is) in
     let early_script : p1.settings.script ≡ p.settings.script = ap (λ (t : TextSettings). t.script) h.settings.early_is in
     let late_script : p2.settings.script ≡ p.settings.script = ap (λ (t : TextSettings). t.script) h.settings.late_is in
     let early_line : IsNativeLine p1.settings.script earlier.view.direction = subst (λ s. IsNativeLine s earlier.view.direction) (sym early_script) (subst (IsNativeLine p.settings.script) (sym broken.early_of.direction) native) in

@@ -119,8 +119,8 @@ pub thai_apart : (plan : hb_script_plan_t ⊤) (p p1 p2 : Shaping) (c : ℕ) (wh
 thai_apart plan p p1 p2 c whole earlier later rules h marks private knows ready broken native plain may w e l =
     let mine = script_rules THAI_SHAPER plan in
     let b = has_private_forms plan.map plan.script in
-    let early_same = normalizer_alike p p1 h.early_is (ap (λ (t : TextSettings). t.invisible) h.settings.early_is) (ap (λ (t : TextSettings). t.not_found_variation_selector) h.settings.early_is) in
-    let late_same = normalizer_alike p p2 h.late_is (ap (λ (t : TextSettings). t.invisible) h.settings.late_is) (ap (λ (t : TextSettings). t.not_found_variation_selector) h.settings.late_is) in
+    let early_same = normalizer_alike p p1 h.early_is (ap (λ (t : TextSettings). t.invisible) h.settings.early_is) (ap (λ (t : TextSettings). t.not_found_variation_selector) h.settings.early_is) (ap (λ (t : TextSettings). t.not_found) h.settings.early_is) in
+    let late_same = normalizer_alike p p2 h.late_is (ap (λ (t : TextSettings). t.invisible) h.settings.late_is) (ap (λ (t : TextSettings). t.not_found_variation_selector) h.settings.late_is) (ap (λ (t : TextSettings). t.not_found) h.settings.late_is) in
     let early_marks = subst KeepsMarks (sym early_same) marks in
     let late_marks = subst KeepsMarks (sym late_same) marks in
     let early_private : KeepsPrivateMarks p1.tables = subst (λ (q : Shaping). KeepsPrivateMarks q.tables) (sym h.early_is) private in

@@ -65,6 +65,7 @@ fn font(tables: &UnicodeTables) -> RowNormalizer<'_> {
         pairs: PAIRS,
         invisible: None,
         unjoined_glyph: None,
+        not_found: 0,
     }
 }
 

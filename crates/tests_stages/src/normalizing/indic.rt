@@ -35,6 +35,7 @@ impl Normalizing for IndicNormalizer<'_> {
       variant_of = λ u s. None;
       invisible = None;
       unjoined_glyph = None;
+      not_found = 0;
       splits = λ u. if scalar u then indic_split n.tables.now u else None;
       composes = λ a b. if scalar a && scalar b then indic_pair n.tables.now a b else None;
       reorders = λ run. eventless_arrangement run;
@@ -65,6 +66,10 @@ impl Normalizing for IndicNormalizer<'_> {
 
     fn unjoined_glyph(&self) -> Option<u32> {
         None
+    }
+
+    fn not_found(&self) -> u32 {
+        0
     }
 
     fn decompose(&self, ab: u32) -> Option<(char, char)> {

@@ -119,6 +119,7 @@ fn normalizer<'a>(
         pairs: &font.pairs,
         invisible: option(value(words, "invisible"))?,
         unjoined_glyph: option(value(words, "unjoined"))?,
+        not_found: option(value(words, "missing"))?.unwrap_or(0),
     })
 }
 
@@ -193,7 +194,7 @@ pub(crate) fn agrees(alloc: Global, row: &str) -> Result<bool, Fail> {
 }
 
 // Options are the shaper's preference, the level, which fields of glyphs are compared, the font's invisible glyph,
-// and that of what is unjoined. Among the texts are runs of 32 marks, which is sorted, and of 33, which is unchanged;
+// that of what is unjoined, and that of what is missing. Among the texts are runs of 32 marks, which is sorted, and of 33, which is unchanged;
 // marks of one class, after which no other one is composed with the letter; grapheme joiners, which keep two marks
 // apart or do not; and selectors that nothing combines with.
 pub(crate) static ROWS: &str = r#"
@@ -266,6 +267,9 @@ a, selector 1, selector 2; mode=Decomposed seen=ni unjoined=12; ; 61=1, FE01=3; 
   U+61@0, U+FE00@1, U+FE01@2; U+61 i=11, U+FE01 i=3
 a with acute, selector 2; mode=Decomposed seen=ni unjoined=12; 301=230; 61=1, 301=2, FE01=3; E1=61+301; 61+301=E1;
   61+FE00=11; U+E1@0, U+FE01@1; U+E1, U+FE01 i=3
+han one, acute accent; mode=Auto seen=ni missing=77; 301=230; 301=2; ; ; ; U+4E00@0, U+301@1; U+4E00 i=77, U+301 i=2
+han one, selector 1; mode=Auto seen=ni missing=77; ; FE00=3; ; ; ; U+4E00@0, U+FE00@1; U+4E00, U+FE00 i=3
+kiyeok, a; mode=Auto seen=ni missing=77; ; ; ; ; ; U+1100@0, U+1161@1; U+1100 i=77, U+1161 i=77
 em space, non-breaking hyphen; mode=None seen=ni invisible=7; ; ; ; ; ; U+2003@0, U+2011@1; U+2003 i=7, U+2011
 no text; mode=None seen=ni; ; ; ; ; ; ;
 a with acute; mode=None seen=ni; 301=230; 61=1, E1=3, 301=2; E1=61+301; 61+301=E1; ; U+E1@0; U+E1 i=3

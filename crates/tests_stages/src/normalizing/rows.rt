@@ -23,6 +23,7 @@ pub struct RowNormalizer<'a> {
     pub pairs: &'a [(char, char, char)],
     pub invisible: Option<u32>,
     pub unjoined_glyph: Option<u32>,
+    pub not_found: u32,
 }
 
 impl Normalizing for RowNormalizer<'_> {
@@ -33,6 +34,7 @@ impl Normalizing for RowNormalizer<'_> {
       variant_of = pair_in n.variants.now;
       invisible = n.invisible;
       unjoined_glyph = n.unjoined_glyph;
+      not_found = n.not_found;
       splits = parts_in n.splits.now;
       composes = pair_in n.pairs.now;
       reorders = λ run. eventless_arrangement run;
@@ -65,6 +67,10 @@ impl Normalizing for RowNormalizer<'_> {
 
     fn unjoined_glyph(&self) -> Option<u32> {
         self.unjoined_glyph
+    }
+
+    fn not_found(&self) -> u32 {
+        self.not_found
     }
 
     fn decompose(&self, ab: u32) -> Option<(char, char)> {
