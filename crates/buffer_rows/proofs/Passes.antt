@@ -1,7 +1,6 @@
 -- One pass over records in the order of their numbers: where the records of greater numbers begin.
-use Rattle.std.proofs.Common.{◌≡◌, ℕ, ◌<◌, ◌≤◌, ◌+◌, true, List, [], ◌∷◌, length, get_or, slice_get, Some, None, inl, inr, sym, ap, arith}
+use Rattle.std.proofs.Common.{◌≡◌, ℕ, ◌<◌, ◌≤◌, ◌+◌, true, List, length, get_or, inl, inr, sym, ap, arith}
 use Rattle.std.proofs.lemmas.Bool.{cases_lt}
-use Rattle.std.proofs.lemmas.Option.{get_or_from_slice_get}
 use Rattle.buffer_rows.specs.Keys.{numbers_rise, row_of}
 use Rattle.buffer_rows.specs.Pages.{IsStart, record_in}
 use Rattle.buffer_rows.proofs.Paged.{never_falls, none_between, slot_read, strictly_rises}

@@ -1,4 +1,4 @@
-use Rattle.std.proofs.Common.{◌≡◌, ◌+◌, ap, sym, ◌∙◌, arith}
+use Rattle.std.proofs.Common.{arith}
 use Rattle.buffer_rows.proofs.Filled.{all_filled, below_filled, none_filled, one_filled}
 use Rattle.buffer_rows.proofs.dense.fill_slots.Goals as goal
 

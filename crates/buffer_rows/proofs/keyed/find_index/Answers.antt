@@ -1,4 +1,4 @@
-use Rattle.std.proofs.Common.{None, Ok, Err, rules}
+use Rattle.std.proofs.Common.{None, Err, rules}
 use Rattle.std.proofs.lemmas.List.Sorted.{answers_always}
 use Rattle.buffer_rows.proofs.Searched.{searched}
 use Rattle.buffer_rows.proofs.keyed.find_index.Goals as goal

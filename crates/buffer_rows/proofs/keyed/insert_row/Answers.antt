@@ -1,8 +1,7 @@
 use Rattle.std.proofs.Common.{◌≡◌, ◌≤◌, ◌<◌, ◌∙◌, None, ap, arith, get_or, length, subst}
-use Rattle.std.specs.List.{insert}
 use Rattle.std.specs.List.Sorted.{IsPartitionPoint}
 use Rattle.std.specs.declared.cmp.Ordering.TheVariants.{Equal, Greater, Less}
-use Rattle.buffer_rows.specs.Keys.{is_rising, with_inserted}
+use Rattle.buffer_rows.specs.Keys.{is_rising}
 use Rattle.buffer_rows.proofs.Inserted.{inserted_rises, row_inserted, row_put}
 use Rattle.buffer_rows.proofs.Replaced.{rising_replaced}
 use Rattle.buffer_rows.proofs.keyed.insert_row.Goals as goal
