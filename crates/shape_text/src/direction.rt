@@ -112,11 +112,21 @@ fn clear_continuations(buffer: &mut hb_buffer_t)
     }
 }
 
+/// A list of this length or more is searched to its end, so that several glyphs are tested at once.
+const SEVERAL: usize = 16;
+
 /// Whether one of the characters continues a grapheme.
 pub(crate) fn has_continuation(glyphs: &[hb_glyph_info_t]) -> bool
     ensures { result ≡ list_any (λ g. continues (item_of g)) glyphs.now }
 {
-    glyphs.iter().any(|glyph| continues_grapheme(glyph))
+    if glyphs.len() < SEVERAL {
+        return glyphs.iter().any(|glyph| continues_grapheme(glyph));
+    }
+    let mut any = false;
+    for glyph in glyphs {
+        any |= continues_grapheme(glyph);
+    }
+    any
 }
 
 fn clear_each_continuation(buffer: &mut hb_buffer_t)
