@@ -19,6 +19,7 @@ pub mod Shown
 pub mod Whole
 pub mod Taken
 pub mod Remembered
+pub mod KnownGlyphs
 pub mod Own
 pub mod Given
 pub mod Kept

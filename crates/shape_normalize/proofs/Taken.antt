@@ -186,6 +186,9 @@ same_length old new same = sym (length-map new origin_of) ∙ ap (λ (os : List 
 pub nothing_taken : (c : Normalizer) (gs : List hb_glyph_info_t) → TakesGlyphs c 0 gs gs
 nothing_taken c gs = record { expanded = sym (none_beside (expanded_list c (strip gs))); origins = refl; within = omega arith }
 
+pub nothing_given : (c : Normalizer) (n : ℕ) (hs given : List hb_glyph_info_t) → given ≡ take n hs → TakesGlyphs c 0 hs (given ++ drop n hs)
+nothing_given c n hs given same = subst (TakesGlyphs c 0 hs) (sym (ap (λ gs. gs ++ drop n hs) same ∙ take-append-drop n hs)) (nothing_taken c hs)
+
 both_taken : (c : Normalizer) (at n : ℕ) (start now new next : List hb_glyph_info_t) → TakesGlyphs c at start now → TakesGlyphs c n (drop at now) new → next ≡ take at now ++ new → TakesGlyphs c (at + n) start next
 both_taken c at n start now new next before takes is =
     let seen : strip next ≡ take at (strip now) ++ strip new = ap strip is ∙ map-append item_of (take at now) new ∙ ap (λ xs. xs ++ strip new) (sym (take-map item_of at now)) in

@@ -7,3 +7,4 @@ pub mod Runs
 pub mod Fronts
 pub mod KeptRuns
 pub mod Undecomposed
+pub mod KnownGlyphs

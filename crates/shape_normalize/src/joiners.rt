@@ -9,6 +9,7 @@ ghost use Rattle.buffer_properties.specs.Characters.{visible_item};
 ghost use Rattle.buffer_properties.specs.Ordering.{joiners_shown};
 ghost use Rattle.shape_normalize.specs.Runs.{HasItems, ShowsAt};
 
+use crate::SEVERAL;
 use crate::characters::mark_class;
 use crate::composing::write_ahead;
 use buffer_core::buffer::hb_buffer_t;
@@ -76,7 +77,14 @@ fn show_between(count: usize, buffer: &mut hb_buffer_t)
 fn has_joiner(glyphs: &[hb_glyph_info_t]) -> bool
     ensures { result ≡ list_any (λ g. g.glyph_id == 0x034F) glyphs.now }
 {
-    glyphs.iter().any(|glyph| glyph.glyph_id == JOINER)
+    if glyphs.len() < SEVERAL {
+        return glyphs.iter().any(|glyph| glyph.glyph_id == JOINER);
+    }
+    let mut any = false;
+    for glyph in glyphs {
+        any |= glyph.glyph_id == JOINER;
+    }
+    any
 }
 
 /// Unhides each grapheme joiner between two items where the next class is 0, or at least the previous one. It takes

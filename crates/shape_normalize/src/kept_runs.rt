@@ -8,11 +8,13 @@ ghost use Rattle.buffer_glyphs.specs.declared.info.hb_glyph_info_t.{hb_glyph_inf
 ghost use Rattle.buffer_properties.specs.Characters.{is_mark};
 ghost use Rattle.shape_normalize.specs.Fronts.{glyph_with_own};
 ghost use Rattle.shape_normalize.specs.KeptRuns.{group_reach, is_kept, IsGiven, Keeps};
+ghost use Rattle.shape_normalize.specs.KnownGlyphs.{HaveGlyphs};
 ghost use Rattle.shape_normalize.specs.Undecomposed.{AreUndecomposed};
 
 use crate::characters::is_selector;
 use crate::expanding::{reach_alone, reach_with_marks};
 use crate::fronts::give_glyph;
+use crate::known_glyphs::{GLYPH_ROWS, KnownGlyph};
 use crate::normalizing::Normalizing;
 use crate::undecomposed::is_undecomposed;
 use buffer_core::buffer::hb_buffer_t;
@@ -22,22 +24,42 @@ use buffer_properties::categories::is_mark;
 
 /// Gives a character ahead the font's glyph, or glyph 0.
 #[tactic(auto, using(crate::proofs::Given::given_at))]
-fn give_at<N: Normalizing>(by: &N, i: usize, buffer: &mut hb_buffer_t)
-    requires { i < length buffer.old.ahead }
-    ensures { (g : Glyph) → slice_get buffer.old.ahead i ≡ Some g
+fn give_at<N: Normalizing>(
+    by: &N,
+    rows: &mut [Option<KnownGlyph>],
+    i: usize,
+    buffer: &mut hb_buffer_t,
+)
+    requires there { i < length buffer.old.ahead }
+    requires rows { HaveGlyphs (N.normalizer by.now) rows.old }
+    ensures given { (g : Glyph) → slice_get buffer.old.ahead i ≡ Some g
         → buffer.new ≡ with_glyph_ahead i (glyph_with_own (N.normalizer by.now) g) buffer.old }
+    ensures rows { HaveGlyphs (N.normalizer by.now) rows.new }
 {
-    give_glyph(by, buffer.cur_mut(i));
+    give_glyph(by, rows, buffer.cur_mut(i));
 }
 
-/// Gives each character ahead the font's glyph, or glyph 0.
-pub(crate) fn give_ahead<N: Normalizing>(by: &N, buffer: &mut hb_buffer_t)
+fn give_each<N: Normalizing>(by: &N, rows: &mut [Option<KnownGlyph>], buffer: &mut hb_buffer_t)
+    requires { HaveGlyphs (N.normalizer by.now) rows.old }
     ensures { IsGiven (N.normalizer by.now) buffer.old buffer.new }
 {
     let count = buffer.lookahead_len();
     for i in 0..count {
-        give_at(by, i, buffer);
+        give_at(by, rows, i, buffer);
     }
+}
+
+/// Gives each character ahead the font's glyph, or glyph 0; those of a long text are remembered.
+#[tactic(auto, using(crate::proofs::KnownGlyphs::no_glyphs, crate::proofs::KnownGlyphs::first_glyphs))]
+pub(crate) fn give_ahead<N: Normalizing>(by: &N, buffer: &mut hb_buffer_t)
+    ensures { IsGiven (N.normalizer by.now) buffer.old buffer.new }
+{
+    if buffer.lookahead_len() < GLYPH_ROWS {
+        give_each(by, &mut [], buffer);
+        return;
+    }
+    let mut rows = [None; GLYPH_ROWS];
+    give_each(by, &mut rows, buffer);
 }
 
 /// How many marks follow from an index on.

@@ -8,6 +8,7 @@ pub mod expanding;
 mod fronts;
 pub mod joiners;
 mod kept_runs;
+mod known_glyphs;
 pub mod normalize;
 pub mod normalizing;
 pub mod ordering;
@@ -17,3 +18,6 @@ mod searching;
 mod selecting;
 pub mod starters;
 mod undecomposed;
+
+/// A list of this length or more is searched to its end, so that several glyphs are tested at once.
+const SEVERAL: usize = 16;

@@ -10,6 +10,7 @@ ghost use Rattle.buffer_properties.specs.Normalizer.{is_composing};
 ghost use Rattle.buffer_properties.specs.NormalizedList.{arranged_marks, has_later_mark};
 ghost use Rattle.shape_normalize.specs.Rounds.{IsArranged, normalization};
 
+use crate::SEVERAL;
 use crate::joiners::show_joiners;
 use crate::normalizing::Normalizing;
 use crate::ordering::arrange_runs;
@@ -36,7 +37,14 @@ fn is_composing(mode: NormalizationMode) -> bool
 fn has_mark(glyphs: &[hb_glyph_info_t]) -> bool
     ensures { result ≡ list_any (λ g. is_mark (item_of g)) glyphs.now }
 {
-    glyphs.iter().any(|glyph| is_mark(glyph))
+    if glyphs.len() < SEVERAL {
+        return glyphs.iter().any(|glyph| is_mark(glyph));
+    }
+    let mut any = false;
+    for glyph in glyphs {
+        any |= is_mark(glyph);
+    }
+    any
 }
 
 /// Whether there is a mark after the first item.

@@ -119,6 +119,10 @@ fn arrange_next<N: Normalizing>(
     if mark_class(&glyph) != 0 {
         return Ok(start);
     }
+    // Most characters have no mark before them.
+    if start == i {
+        return Ok(i + 1);
+    }
     arrange_run(by, alloc, start, i, buffer)?;
     Ok(i + 1)
 }
