@@ -2,6 +2,7 @@ pub mod Jamo
 pub mod Actions
 pub mod Steps
 pub mod Stepped
+pub mod Alone
 pub mod Hangul
 pub mod Kept
 pub mod Masks

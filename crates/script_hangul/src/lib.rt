@@ -2,6 +2,7 @@
 #![tactic(auto)]
 
 pub mod actions;
+mod composing;
 pub mod hangul;
 pub mod jamo;
 mod kept;

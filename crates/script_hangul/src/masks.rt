@@ -1,5 +1,5 @@
 //! The masks of Hangul jamo (rustybuzz: hb/ot_shaper_hangul.rs).
-ghost use Rattle.std.specs.Prelude.{◌≡◌};
+ghost use Rattle.std.specs.Prelude.{◌≡◌, ◌==◌, ◌&&◌};
 ghost use Rattle.std.specs.Int.RustNames.{bit_and};
 ghost use Rattle.buffer_glyphs.specs.Items.{item_of};
 ghost use Rattle.buffer_glyphs.specs.Origins.{origin_of};
@@ -22,12 +22,23 @@ pub struct JamoMasks {
 }
 
 /// Adds to the mask of each jamo the mask of its feature (`setup_masks`). It takes linear time and no memory.
+#[tactic(auto, using(crate::proofs::Masked::none_masked))]
 pub fn setup_masks(masks: &JamoMasks, buffer: &mut hb_buffer_t)
     requires ready { IsReady buffer.old }
     requires flagless { AreFlagless masks.now }
     ensures { IsFollowed (always (with_items_mapped (with_letter_mask masks.now))) buffer.old buffer.new }
 {
+    // Most fonts with syllables lack the three features, and then no glyph changes.
+    if are_zero(masks) {
+        return;
+    }
     map_glyphs(buffer, |glyph| with_letter_mask(masks, glyph));
+}
+
+fn are_zero(masks: &JamoMasks) -> bool
+    ensures { result ≡ (masks.now.ljmo == 0 && (masks.now.vjmo == 0 && masks.now.tjmo == 0)) }
+{
+    masks.ljmo == 0 && masks.vjmo == 0 && masks.tjmo == 0
 }
 
 /// A glyph with the mask of its jamo feature.

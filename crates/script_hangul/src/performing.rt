@@ -10,11 +10,12 @@ ghost use Rattle.buffer_stages.specs.Walks.{RefusesLength, HasWalked};
 ghost use Rattle.buffer_core.specs.Sides.{HasCurrent};
 
 use crate::actions::Action;
+use crate::composing::compose_front;
 use crate::jamo::Letters;
 use buffer_core::buffer::hb_buffer_t;
 use buffer_glyphs::cause::ShapeCause;
 use buffer_glyphs::info::hb_glyph_info_t;
-use buffer_stages::walks::{advance, advance_as, replace_current, replace_front};
+use buffer_stages::walks::{advance, advance_as, replace_current};
 
 /// The jamo features, as `auxiliary` of a glyph: 1 ljmo, 2 vjmo, 3 tjmo.
 pub const LJMO: u8 = 1;
@@ -71,7 +72,7 @@ fn compose(count: usize, u: char, buffer: &mut hb_buffer_t) -> Result<usize, Sha
         buffer.old) }
 {
     let at = buffer.out_len();
-    replace_front(count, u32::from(u), buffer)?;
+    compose_front(count, u32::from(u), buffer)?;
     Ok(at)
 }
 
