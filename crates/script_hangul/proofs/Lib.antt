@@ -1,6 +1,13 @@
 pub mod Put
 pub mod Fits
+pub mod Letters
+pub mod Unions
+pub mod Carried
+pub mod WrittenEvents
+pub mod WrittenWalks
+pub mod WrittenSyllables
 pub mod Walk
+pub mod Steps
 pub mod Alone
 pub mod Masked
 pub mod Requested

@@ -3,6 +3,7 @@ pub mod Actions
 pub mod Steps
 pub mod Stepped
 pub mod Alone
+pub mod Written
 pub mod Hangul
 pub mod Kept
 pub mod Masks

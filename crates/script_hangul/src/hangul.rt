@@ -4,24 +4,26 @@ ghost use Rattle.buffer_glyphs.specs.Items.{strip};
 ghost use Rattle.buffer_stages.specs.Ready.{IsReady};
 ghost use Rattle.script_hangul.specs.Actions.{action_on};
 ghost use Rattle.script_hangul.specs.Steps.{step_of};
-ghost use Rattle.script_hangul.specs.Hangul.{character_at, count_apart, hangul_text, jamo_rule, step, syllables_formed, wants_circles};
+ghost use Rattle.script_hangul.specs.Hangul.{character_at, count_apart, hangul_text, jamo_rule, step, wants_circles};
 ghost use Rattle.script_syllabic.specs.Graphemes.{with_graphemes_merged};
 ghost use Rattle.buffer_core.specs.Readings.{always};
 ghost use Rattle.buffer_core.specs.Sides.{HasCurrent};
-ghost use Rattle.script_hangul.specs.Stepped.{Passes, Refuses, IsStepped};
+ghost use Rattle.script_hangul.specs.Stepped.{Passes, Refuses, IsWritten};
+ghost use Rattle.script_hangul.specs.Written.{MayMerge, MergesAnywhere, action_merge, merge_if, syllables_walked};
 ghost use Rattle.buffer_stages.specs.Walks.{RefusesLength};
 ghost use Rattle.buffer_stages.specs.Stages.{DoesStage, IsFollowed};
 
 use crate::actions::{Action, action_on, begins_syllable};
 use crate::jamo::is_tone;
 use crate::kept::is_kept;
-use crate::performing::{keep, perform};
+use crate::performing::{keep, perform_merged};
 use crate::tones::put_tone;
 use bitflags::Flags;
 use buffer_common::constants::BufferFlags;
 use buffer_core::buffer::hb_buffer_t;
 use buffer_glyphs::cause::ShapeCause;
 use buffer_glyphs::info::hb_glyph_info_t;
+use buffer_glyphs::level::BufferClusterLevel;
 use buffer_stages::walks::finish;
 use layout_face::Face;
 use script_syllabic::graphemes::merge_grapheme;
@@ -52,10 +54,36 @@ fn change_text(face: &Face, buffer: &mut hb_buffer_t) -> Result<(), ShapeCause>
     requires ready { IsReady buffer.old }
     ensures { DoesStage (hangul_text face.now buffer.old.flags) result buffer.old buffer.new }
 {
-    // A tone mark that is moved takes clusters out of order, and then a merge would walk the whole text.
+    // Each merge may come with its syllable, which needs no walk of its own.
+    if merges_anywhere(buffer) {
+        return form_syllables(face, true, buffer);
+    }
     merge_jamo(face, buffer);
-    form_syllables(face, buffer)?;
+    form_syllables(face, false, buffer)?;
     Ok(())
+}
+
+/// Whether a merge with its syllable leaves what one before all syllables leaves.
+#[tactic(auto, using(crate::proofs::Steps::anywhere))]
+fn merges_anywhere(buffer: &hb_buffer_t) -> bool
+    ensures { result ≡ true → MergesAnywhere buffer.now }
+{
+    if buffer.asks_breaks() {
+        return false;
+    }
+    is_even(buffer.cluster_level())
+}
+
+/// Whether a level either merges in both ways or in none.
+fn is_even(level: BufferClusterLevel) -> bool
+    ensures { result ≡ true → level ≢ BufferClusterLevel.Graphemes }
+{
+    match level {
+        BufferClusterLevel::Graphemes => false,
+        BufferClusterLevel::MonotoneGraphemes
+        | BufferClusterLevel::MonotoneCharacters
+        | BufferClusterLevel::Characters => true,
+    }
 }
 
 /// Merges the characters of each syllable that stays several jamo into one grapheme.
@@ -114,17 +142,18 @@ pub(crate) fn character_in(glyphs: &[hb_glyph_info_t], i: usize) -> Option<char>
     }
 }
 
-/// Forms the syllables of a text.
-fn form_syllables(face: &Face, buffer: &mut hb_buffer_t) -> Result<(), ShapeCause>
+/// Forms the syllables of a text, and merges the graphemes of each if `merges` is set.
+fn form_syllables(face: &Face, merges: bool, buffer: &mut hb_buffer_t) -> Result<(), ShapeCause>
     requires ready { IsReady buffer.old }
-    ensures { DoesStage (syllables_formed face.now buffer.old.flags) result buffer.old buffer.new }
+    requires merges { MayMerge merges buffer.old }
+    ensures { DoesStage (syllables_walked merges face.now buffer.old.flags) result buffer.old buffer.new }
 {
     let circles = wants_circles(buffer.flags());
     let count = buffer.len();
     buffer.clear_output()?;
     let mut start = 0;
     for _ in 0..count {
-        start = pass(face, circles, start, buffer)?;
+        start = pass(face, circles, merges, start, buffer)?;
     }
     finish(buffer)?;
     Ok(())
@@ -141,31 +170,35 @@ fn wants_circles(flags: BufferFlags) -> bool
 fn pass(
     face: &Face,
     circles: bool,
+    merges: bool,
     start: usize,
     buffer: &mut hb_buffer_t,
 ) -> Result<usize, ShapeCause>
     requires open { buffer.old.is_open ≡ true }
-    ensures ok { IfOk result (λ n. Passes face.now circles start n buffer.old buffer.new) }
+    ensures ok { IfOk result (λ n. Passes merges face.now circles start n buffer.old buffer.new) }
     ensures err { IfErr result (λ e. RefusesLength (length (step face.now circles start (strip buffer.old.behind)
         (strip buffer.old.ahead)).out) e buffer.old) }
 {
     if buffer.lookahead_len() == 0 {
         return Ok(start);
     }
-    let next = pass_next(face, circles, start, buffer)?;
+    let next = pass_next(face, circles, merges, start, buffer)?;
     Ok(next)
 }
 
 /// Outputs the current character and those that belong to it; returns the start of the last syllable.
+#[tactic(auto, using(crate::proofs::Steps::tone_written, crate::proofs::Steps::other_written, crate::proofs::Steps::number_written))]
 fn pass_next(
     face: &Face,
     circles: bool,
+    merges: bool,
     start: usize,
     buffer: &mut hb_buffer_t,
 ) -> Result<usize, ShapeCause>
     requires current { HasCurrent buffer.old }
-    ensures ok { IfOk result (λ n. IsStepped (step face.now circles start (strip buffer.old.behind)
-        (strip buffer.old.ahead)) n buffer.old buffer.new) }
+    ensures ok { IfOk result (λ n. IsWritten (step face.now circles start (strip buffer.old.behind)
+        (strip buffer.old.ahead)) (merge_if merges face.now (length (strip buffer.old.behind)) (strip buffer.old.ahead)) n
+        buffer.old buffer.new) }
     ensures err { IfErr result (λ e. Refuses (step face.now circles start (strip buffer.old.behind)
         (strip buffer.old.ahead)) e buffer.old) }
 {
@@ -174,25 +207,31 @@ fn pass_next(
             if is_tone(u) {
                 return put_tone(face, circles, start, u, buffer);
             }
-            pass_other(face, u, buffer)
+            pass_other(face, u, merges, buffer)
         }
         None => keep(false, buffer),
     }
 }
 
 /// Outputs a current character that is no tone mark, with those of its syllable.
-fn pass_other(face: &Face, u: char, buffer: &mut hb_buffer_t) -> Result<usize, ShapeCause>
+fn pass_other(
+    face: &Face,
+    u: char,
+    merges: bool,
+    buffer: &mut hb_buffer_t,
+) -> Result<usize, ShapeCause>
     requires current { HasCurrent buffer.old }
-    ensures ok { IfOk result (λ n. IsStepped (step_of (action_on face.now u (character_at 1 (strip buffer.old.ahead))
-        (character_at 2 (strip buffer.old.ahead))) (strip buffer.old.behind) (strip buffer.old.ahead)) n buffer.old
-        buffer.new) }
+    ensures ok { IfOk result (λ n. IsWritten (step_of (action_on face.now u (character_at 1 (strip buffer.old.ahead))
+        (character_at 2 (strip buffer.old.ahead))) (strip buffer.old.behind) (strip buffer.old.ahead))
+        (action_merge merges (action_on face.now u (character_at 1 (strip buffer.old.ahead))
+        (character_at 2 (strip buffer.old.ahead))) (length buffer.old.behind)) n buffer.old buffer.new) }
     ensures err { IfErr result (λ e. Refuses (step_of (action_on face.now u (character_at 1 (strip buffer.old.ahead))
         (character_at 2 (strip buffer.old.ahead))) (strip buffer.old.behind) (strip buffer.old.ahead)) e buffer.old) }
 {
     let second = character_at(1, buffer);
     let third = character_at(2, buffer);
     let action = action_on(face, u, second, third);
-    perform(action, buffer)
+    perform_merged(merges, action, buffer)
 }
 
 /// The i-th character from the cursor on, if there is one.

@@ -1,11 +1,12 @@
 //! Performs the chosen action on a buffer with an open output (rustybuzz: hb/ot_shaper_hangul.rs).
-ghost use Rattle.std.specs.Prelude.{◌≡◌, if◌then◌else◌, ◌<◌, ◌≤◌, ◌+◌, ◌++◌, ◌∷◌, [], true, drop, length, take, slice_get, Some, IfOk, IfErr, OnOk};
+ghost use Rattle.std.specs.Prelude.{◌≡◌, if◌then◌else◌, ◌<◌, ◌≤◌, ◌+◌, ◌++◌, ◌∷◌, [], true, drop, length, take, slice_get, Some, IfOk, IfErr, OnOk, unwrap_or};
 ghost use Rattle.buffer_glyphs.specs.Items.{item_of, strip};
 ghost use Rattle.buffer_glyphs.specs.Origins.{origin_of};
 ghost use Rattle.buffer_glyphs.specs.Replacements.{item_numbered};
 ghost use Rattle.buffer_glyphs.specs.Events.{Replace};
 ghost use Rattle.script_hangul.specs.Steps.{apart_step, compose_step, keep_step, letters_from, numbers_of, letters_of_first, step_of, numbered_letter, split_step};
-ghost use Rattle.script_hangul.specs.Stepped.{Refuses, IsStepped, fits_rest};
+ghost use Rattle.script_hangul.specs.Stepped.{Refuses, IsStepped, IsWritten, fits_rest};
+ghost use Rattle.script_hangul.specs.Written.{action_merge, written_count};
 ghost use Rattle.buffer_stages.specs.Walks.{RefusesLength, HasWalked};
 ghost use Rattle.buffer_core.specs.Sides.{HasCurrent};
 
@@ -41,6 +42,57 @@ pub(crate) fn perform(action: Action, buffer: &mut hb_buffer_t) -> Result<usize,
         Action::Apart(count) => put_apart(count, buffer),
         Action::Compose(count, u) => compose(count, u, buffer),
         Action::Split(letters, joins) => split(letters, joins, buffer),
+    }
+}
+
+/// Performs an action, and merges the jamo of its syllable as one grapheme if `merges` is set.
+#[tactic(auto, using(crate::proofs::Steps::merged_action, crate::proofs::Steps::many_written))]
+pub(crate) fn perform_merged(
+    merges: bool,
+    action: Action,
+    buffer: &mut hb_buffer_t,
+) -> Result<usize, ShapeCause>
+    requires open { buffer.old.is_open ≡ true }
+    requires there { fits_rest action (length buffer.old.ahead) ≡ true }
+    ensures ok { IfOk result (λ n. IsWritten (step_of action (strip buffer.old.behind) (strip buffer.old.ahead))
+        (action_merge merges action (length buffer.old.behind)) n buffer.old buffer.new) }
+    ensures err { IfErr result (λ e. Refuses (step_of action (strip buffer.old.behind) (strip buffer.old.ahead)) e
+        buffer.old) }
+{
+    let at = buffer.out_len();
+    let start = perform(action, buffer)?;
+    merge_written(merges, action, at, buffer);
+    Ok(start)
+}
+
+/// Merges the jamo of a syllable that was output from an index on, if `merges` is set and it is several.
+#[tactic(auto, using(crate::proofs::Steps::none_written, crate::proofs::Steps::unmerged, crate::proofs::Steps::single, crate::proofs::Steps::several_written, crate::proofs::Steps::count_within))]
+fn merge_written(merges: bool, action: Action, at: usize, buffer: &mut hb_buffer_t)
+    requires open { buffer.old.is_open ≡ true }
+    requires within { at + unwrap_or (written_count action) 0 ≤ length buffer.old.behind }
+    ensures { HasWalked (strip buffer.old.behind) (strip buffer.old.ahead) (action_merge merges action at) buffer.old
+        buffer.new }
+{
+    if !merges {
+        return;
+    }
+    let Some(count) = written_count(action) else {
+        return;
+    };
+    // The length bounds the index.
+    let _end = buffer.out_len();
+    buffer.merge_out_grapheme_clusters(at, at + count);
+}
+
+/// The number of jamo of the syllable that an action outputs, none where it is one character.
+fn written_count(action: Action) -> Option<usize>
+    ensures { result ≡ written_count action }
+{
+    match action {
+        Action::Apart(count) => Some(count),
+        Action::Split(Letters::Two(_, _), joins) => Some(if joins { 3 } else { 2 }),
+        Action::Split(Letters::Three(_, _, _), joins) => Some(if joins { 4 } else { 3 }),
+        Action::Keep(_) | Action::Compose(_, _) => None,
     }
 }
 

@@ -20,9 +20,5 @@ pub mod Shapers
 pub mod GraphemeNumbers
 pub mod GraphemeClusters
 pub mod Sources
-pub mod Unions
-pub mod Carried
-pub mod WrittenEvents
 pub mod WrittenVowels
-pub mod WrittenWalks
 pub mod WrittenSyllables

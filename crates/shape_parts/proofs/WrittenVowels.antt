@@ -32,9 +32,9 @@ use Rattle.script_thai.specs.Texts.{has_private_forms, private_if}
 use Rattle.script_thai.specs.ThaiPrivate.{with_private}
 use Rattle.script_thai.specs.ThaiVowel.{count_above, events_of_vowel, is_mark_above, is_sara_am, marks_above, nikhahit, sara_aa, split_events, text_with_splits, thai_or_lao, vowel_rule, vowels_decomposed, with_vowel}
 use Rattle.shape_parts.specs.WrittenMerges.{VowelsMergeWhereWritten, written_characters, written_vowel}
-use Rattle.shape_parts.proofs.Unions.{HaveSame, IsFlagless, merges_alike, same_as, unions_alike}
-use Rattle.shape_parts.proofs.Carried.{Passes, begins_at, carried_passes, doubling_carries, graphemes_flagless, have_after, have_twice, moving_passes, output_flagless, range_over, replaced_many, replaced_numbers, whole_numbers}
-use Rattle.shape_parts.proofs.WrittenEvents.{AreWritten, both_written, clusters_by_requests, merge_alone, merged_unasked, merges_alone, merges_written, origins_by_requests, unasked}
+use Rattle.script_hangul.proofs.Unions.{HaveSame, IsFlagless, merges_alike, same_as, unions_alike}
+use Rattle.script_hangul.proofs.Carried.{Passes, begins_at, carried_passes, doubling_carries, graphemes_flagless, have_after, have_twice, moving_passes, output_flagless, range_over, replaced_many, replaced_numbers, whole_numbers}
+use Rattle.script_hangul.proofs.WrittenEvents.{AreWritten, both_written, clusters_by_requests, merge_alone, merged_unasked, merges_alone, merges_written, origins_by_requests, unasked}
 use Rattle.script_thai.proofs.Counted.{last_counted}
 use Rattle.buffer_stages.specs.Lemmas.Nested.{merged_length as merged_many}
 use Rattle.buffer_lists.proofs.Lemmas.SortedEvents.{lone_merged as merged_alone}

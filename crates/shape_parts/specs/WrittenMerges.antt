@@ -1,6 +1,6 @@
 -- The texts of Thai, Lao and Hangul with each merge of a grapheme where HarfBuzz has it: once the vowel or the syllable
 -- is written.
-use Rattle.std.specs.Prelude.{ℕ, zero, suc, ◌≡◌, ◌+◌, ◌-◌, ◌==◌, Bool, false, if◌then◌else◌, List, [], ◌∷◌, ◌++◌, length, drop, Option, Some, None, Ok}
+use Rattle.std.specs.Prelude.{ℕ, ◌≡◌, ◌+◌, ◌-◌, ◌==◌, false, if◌then◌else◌, List, [], ◌∷◌, ◌++◌, length, Option, Ok}
 use Rattle.buffer_common.specs.declared.constants.BufferFlags.{BufferFlags}
 use Rattle.buffer_common.specs.declared.script.Script.{Script}
 use Rattle.buffer_unicode_tables.specs.Tables.{Tables}
@@ -17,12 +17,8 @@ use Rattle.layout_face.specs.declared.parts.FaceParts.{FaceParts}
 use Rattle.layout_map.specs.Compiled.{OtMapValue}
 use Rattle.script_thai.specs.Texts.{thai_text}
 use Rattle.script_thai.specs.ThaiVowel.{count_above, is_sara_am, with_character}
-use Rattle.script_hangul.specs.declared.actions.Action.{Action}
-use Rattle.script_hangul.specs.declared.actions.Action.TheVariants.{Keep, Apart, Compose, Split}
-use Rattle.script_hangul.specs.Actions.{action_on}
-use Rattle.script_hangul.specs.Hangul.{character_at, hangul_text, step, wants_circles}
-use Rattle.script_hangul.specs.Jamo.{is_tone}
-use Rattle.script_hangul.specs.Steps.{Step, numbers_of}
+use Rattle.script_hangul.specs.Hangul.{hangul_text}
+pub use Rattle.script_hangul.specs.Written.{written_syllables}
 
 -- ---- Thai and Lao
 
@@ -58,36 +54,6 @@ VowelsMergeWhereWritten = (m : OtMapValue) (script : Option Script) (t : Tables)
     × (text.asks.breaks ≡ false → (state_after r text).origins ≡ origins_after text.asks text.level (written_characters [] text.view.items) text.origins)
 
 -- ---- Hangul
-
--- the merge of a syllable that was written from an index on, where it is several jamo (HarfBuzz:
--- merge_out_grapheme_clusters)
-abbrev pub syllable_merge : Action → ℕ → List Event
-syllable_merge (Keep whole) at = []
-syllable_merge (Apart n) at = MergeGrapheme at (at + n) ∷ []
-syllable_merge (Compose n u) at = []
-syllable_merge (Split letters joins) at = MergeGrapheme at (at + (length (numbers_of letters) + (if joins then 1 else 0))) ∷ []
-
--- that merge by the first of the next characters; none at a tone mark
-abbrev pub written_merge_by : FaceParts → Option ℕ → ℕ → List Item → List Event
-written_merge_by font None at xs = []
-written_merge_by font (Some u) at xs = if is_tone u then [] else syllable_merge (action_on font u (character_at 1 xs) (character_at 2 xs)) at
-
--- that merge by the next characters
-abbrev pub written_merge : FaceParts → ℕ → List Item → List Event
-written_merge font at xs = written_merge_by font (character_at 0 xs) at xs
-
--- the events of that many steps at most, by the text before and the rest, each with its merge after it (HarfBuzz:
--- preprocess_text_hangul)
-abbrev pub written_steps : FaceParts → Bool → BufferClusterLevel → ℕ → ℕ → List Item → List Item → List Event
-written_steps font circles level steps n out [] = []
-written_steps font circles level zero n out (x ∷ xs) = []
-written_steps font circles level (suc steps) n out (x ∷ xs) =
-    let s : Step = step font circles n out (x ∷ xs) in
-    s.events level ++ written_merge font (length out) (x ∷ xs) ++ written_steps font circles level steps s.start s.out (drop (s.more + 1) (x ∷ xs))
-
--- the events of a text whose syllables are written, each with its merge; each step consumes an item
-abbrev pub written_syllables : FaceParts → BufferFlags → BufferClusterLevel → List Item → List Event
-written_syllables font flags level xs = written_steps font (wants_circles flags) level (length xs) 0 [] xs
 
 -- law: at every level the clusters of a Hangul text that is preprocessed are those after its syllables were written, each
 -- merge with its syllable; so are the flags, but where PRODUCE_SAFE_BREAKS is requested, and but for a text at the level

@@ -18,7 +18,7 @@ use Rattle.buffer_properties.specs.Properties.{is_mark_character}
 use Rattle.script_hangul.specs.Jamo.{is_leading, is_syllable, is_tone, is_trailing, is_vowel}
 use Rattle.shape_laws.specs.Breaks.ChainLaws.{TonesAreMarks}
 use Rattle.shape_laws.specs.Breaks.HangulCharacters.{begins_syllable, continues_syllable}
-use Rattle.shape_parts.proofs.WrittenSyllables.{in_range as within}
+use Rattle.script_hangul.proofs.WrittenSyllables.{in_range as within}
 
 -- ---- tone marks
 

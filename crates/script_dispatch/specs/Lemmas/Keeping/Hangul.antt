@@ -34,6 +34,7 @@ use Rattle.script_hangul.specs.Jamo.{is_leading, is_syllable, is_tone, is_vowel,
 use Rattle.script_hangul.specs.Actions.{action_on, before_trailing, has_character, has_letters, joining_action, leading_action, letters_action, open_by, split_action, split_action_of, syllable_action, trailing_of}
 use Rattle.script_hangul.specs.Steps.{DOTTED_CIRCLE, Step, apart_step, before_syllable, circle_beside, compose_step, has_no_width, keep_step, letters_from, numbers_of, letters_of_first, step_of, with_tone_first, split_step, tone_step, with_circle}
 use Rattle.script_hangul.specs.Hangul.{character_at, events_after, hangul_text, jamo_rule, step, step_by, syllables_formed, text_after, wants_circles}
+use Rattle.script_hangul.proofs.Letters.{letters_long, letters_some}
 use Rattle.script_dispatch.specs.Keeping.{TextsKeepPlainly}
 use Rattle.script_dispatch.specs.Lemmas.Keeping.Thai.{merged_keeps_plainly, thai_keeps_plainly}
 
@@ -99,10 +100,6 @@ action_takes font u second third = by_tests (is_leading u) (is_syllable u)
 
 -- ---- steps
 
-pub letters_long : (n : ℕ) (xs : List Item) → length (letters_from n xs) ≡ length xs
-letters_long n [] = refl
-letters_long n (x ∷ xs) = ap suc (letters_long (n + 1) xs)
-
 -- what a step makes of the first item of n, after `at` items before them
 abbrev StepKept : Step → BufferClusterLevel → ℕ → ℕ → Type 0
 StepKept s level at n = ArePlainlyKept (s.events level) (at + n) (length s.out + (n - (s.more + 1)))
@@ -136,10 +133,6 @@ composed_kept n u out x xs level some =
     let m = length xs in
     let left : length out + 1 + (length out + suc m - (length out + n)) ≡ length (out ++ renumbered_first u (x ∷ xs)) + (suc m - (n - 1 + 1)) = omega (arith, a, some) in
     replacement_kept (length out) n 1 (length out + suc m) (length (out ++ renumbered_first u (x ∷ xs)) + (suc m - (n - 1 + 1))) (omega arith) (omega arith) (omega arith) left
-
-pub letters_some : (letters : Letters) → 0 < length (numbers_of letters)
-letters_some (Two l v) = omega arith
-letters_some (Three l v t) = omega arith
 
 split_kept : (letters : Letters) (n : ℕ) (out : List Item) (x : Item) (xs : List Item) (level : BufferClusterLevel) → StepKept (split_step letters n out (x ∷ xs)) level (length out) (suc (length xs))
 split_kept letters n out x xs level =

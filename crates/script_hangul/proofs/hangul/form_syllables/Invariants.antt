@@ -5,4 +5,4 @@ use Rattle.script_hangul.proofs.hangul.form_syllables.Given as goal
 
 -- so many steps are left
 abbrev pub invariant-loop : goal.invariant-loop
-invariant-loop l = IsUnderway l.face l.circles (l.count - l.counter) l.start (with_output l.initial.buffer) l.buffer
+invariant-loop l = IsUnderway l.merges l.face l.circles (l.count - l.counter) l.start (with_output l.initial.buffer) l.buffer

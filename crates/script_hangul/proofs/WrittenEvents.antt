@@ -12,7 +12,7 @@ use Rattle.buffer_glyphs.specs.Lemmas.Handed.{numbers_handed_if}
 use Rattle.buffer_glyphs.specs.Lemmas.Origins.{numbers_merged_by}
 use Rattle.buffer_glyphs.specs.Lemmas.Replacements.{among_seen}
 use Rattle.script_syllabic.specs.Graphemes.{merge_of, merges_by}
-use Rattle.shape_parts.proofs.Carried.{arranged_seen}
+use Rattle.script_hangul.proofs.Carried.{arranged_seen}
 
 -- no event but merges, replacements, moves and breaks that are requested
 abbrev pub AreWritten : List Event → Type 0

@@ -19,9 +19,9 @@ use Rattle.buffer_glyphs.specs.Lemmas.Numbers.{Has, has_here, has_map, has_take,
 use Rattle.buffer_glyphs.specs.Lemmas.Origins.{number_cast, number_outside, numbers_marked, numbers_merged}
 use Rattle.buffer_glyphs.specs.Lemmas.Parts.{Stands, stands_self}
 use Rattle.buffer_glyphs.specs.Lemmas.Replacements.{among_seen}
-use Rattle.shape_parts.proofs.Unions.{below}
-use Rattle.shape_parts.proofs.Carried.{arranged_rest, arranged_seen, begins_at, both_pass, carried_passes, merge_passes, replaced_is, replaced_rest, replacing_carries}
-use Rattle.shape_parts.proofs.WrittenEvents.{AreWritten, numbers_after, unasked}
+use Rattle.script_hangul.proofs.Unions.{below}
+use Rattle.script_hangul.proofs.Carried.{arranged_rest, arranged_seen, begins_at, both_pass, carried_passes, merge_passes, replaced_is, replaced_rest, replacing_carries}
+use Rattle.script_hangul.proofs.WrittenEvents.{AreWritten, numbers_after, unasked}
 use Rattle.buffer_stages.specs.Lemmas.Nested.{not_merged, merged_length as merged_many}
 use Rattle.buffer_core.proofs.MergedOrigins.{cast_self as same_cast}
 use Rattle.buffer_parts.specs.Lemmas.Groups.{range_map}

@@ -12,7 +12,7 @@ use Rattle.buffer_glyphs.specs.Origins.{Origin, numbers, cast, origins_merged, M
 use Rattle.buffer_glyphs.specs.Lemmas.Origins.{numbers_merged_by}
 use Rattle.buffer_glyphs.specs.Lemmas.Replacements.{among_seen}
 use Rattle.buffer_glyphs.specs.Order.{has_number}
-use Rattle.shape_parts.proofs.Unions.{HaveSame, IsFlagless, merges_swap}
+use Rattle.script_hangul.proofs.Unions.{HaveSame, IsFlagless, merges_swap}
 use Rattle.buffer_stages.specs.Lemmas.Nested.{merged_length as merged_many}
 use Rattle.buffer_lists.proofs.Carried.{take_sum as take_both}
 
