@@ -70,9 +70,9 @@ IsWithin size (Same glyph) = Unit {0}
 -- ---- ranges
 
 -- the rule of a segment of format 4 with an idDelta: the delta alone where idRangeOffset, at an offset, is 0; else glyphs
--- from so far after that offset on
+-- from idRangeOffset / 2 words after that offset on
 abbrev pub segment_rule : List ℕ → ℕ → ℕ → GlyphRule
-segment_rule table delta at = if word table at == 0 then Delta delta else Listed (at + word table at) delta
+segment_rule table delta at = if word table at == 0 then Delta delta else Listed (at + word table at / 2 * 2) delta
 
 -- the range of a form at an offset. Format 4: endCode at the offset, startCode, idDelta and idRangeOffset in arrays after
 -- the end codes and a word of padding. Formats 6 and 10: the first character, the number of characters, their glyphs.

@@ -166,7 +166,7 @@ fn segment_rule(table: &[u8], delta: u16, at: usize) -> GlyphRule
     if offset == 0 {
         GlyphRule::Delta(delta)
     } else {
-        GlyphRule::Listed(at + usize::from(offset), delta)
+        GlyphRule::Listed(at + usize::from(offset) / 2 * 2, delta)
     }
 }
 

@@ -17,6 +17,12 @@ const SEGMENTS: [u8; 60] = [
     0xe5, 0, 1, 0, 0, 0, 0, 0, 0, 0, 0,
 ];
 
+/// Format 4 with an idRangeOffset of 5, which counts as two words: U+0041 and U+0042 have glyphs 7 and 9.
+const ODD_OFFSET: [u8; 48] = [
+    0, 0, 0, 1, 0, 3, 0, 1, 0, 0, 0, 12, 0, 4, 0, 36, 0, 0, 0, 4, 0, 4, 0, 1, 0, 0, 0, 0x42, 0xff,
+    0xff, 0, 0, 0, 0x41, 0xff, 0xff, 0, 0, 0, 1, 0, 5, 0, 0, 0, 7, 0, 9,
+];
+
 /// A symbol subtable of format 6: U+F041 has glyph 7 and U+F042 none, and U+F043 glyph 9.
 const SYMBOL: [u8; 28] = [
     0, 0, 0, 1, 0, 3, 0, 0, 0, 0, 0, 12, 0, 6, 0, 16, 0, 0, 0xf0, 0x41, 0, 3, 0, 7, 0, 0, 0, 9,
@@ -66,6 +72,8 @@ fn characters_are_read(rt: HostRuntime) -> Result<(), Fail> {
         (0xffff, 0),
     ];
     has_glyphs(&rt, alloc, &SEGMENTS, &examples)?;
+    let odd = [(0x40, 0), (0x41, 7), (0x42, 9), (0x43, 0)];
+    has_glyphs(&rt, alloc, &ODD_OFFSET, &odd)?;
     let symbols = [
         (0x40, 0),
         (0x41, 7),
