@@ -1,11 +1,8 @@
 -- The rows of a character map where one is set.
-use Rattle.std.proofs.Common.{◌≡◌, ℕ, ◌==◌, ◌&&◌, ◌||◌, ◌×◌, Bool, true, false, if◌then◌else◌, List, [], ◌∷◌, ◌++◌, filter, find, nat_lt, Option, Some, None, option_map, refl, sym, ap, ◌∙◌, inl, inr, arith}
+use Rattle.std.proofs.Common.{◌≡◌, ℕ, List, [], ◌∷◌, ◌++◌, filter, nat_lt, Some, None, sym, ap, ◌∙◌, append_assoc, arith}
 use Rattle.std.specs.Ordering.{is_lt, is_gt, nat_cmp, ordering_then}
-use Rattle.std.specs.Option.{option_or}
-use Rattle.std.proofs.lemmas.Bool.{cases_Bool}
 use Rattle.std.proofs.lemmas.Bool.Decides.{nat_tests}
 use Rattle.std.proofs.lemmas.List.Elements.{filter_agree}
-use Rattle.std.proofs.lemmas.List.Folds.{find-append}
 use Rattle.buffer_rows.specs.Keys.{with_inserted, without_key}
 use Rattle.layout_face.specs.declared.parts.CharacterRow.{CharacterRow}
 use Rattle.layout_face.specs.declared.parts.VariationRow.{VariationRow}
@@ -27,10 +24,12 @@ pub character_inserted : (c glyph : ℕ) (rows : List CharacterRow) → with_ins
 character_inserted c glyph rows =
     let row : CharacterRow = record { character = c; glyph = glyph } in
     ap (λ l. l ++ row ∷ filter (λ (r : CharacterRow). is_gt (nat_cmp r.character c)) rows) (lesser c rows) ∙ ap (λ l. filter (λ (r : CharacterRow). nat_lt r.character c) rows ++ row ∷ l) (greater c rows)
+    ∙ sym (append_assoc (filter (λ (r : CharacterRow). nat_lt r.character c) rows) (row ∷ []) (filter (λ (r : CharacterRow). nat_lt c r.character) rows))
 
 pub character_removed : (c : ℕ) (rows : List CharacterRow) → without_key nat_cmp (λ (r : CharacterRow). r.character) c rows ≡ with_character c None rows
 character_removed c rows =
     ap (λ l. l ++ filter (λ (r : CharacterRow). is_gt (nat_cmp r.character c)) rows) (lesser c rows) ∙ ap (λ l. filter (λ (r : CharacterRow). nat_lt r.character c) rows ++ l) (greater c rows)
+    ∙ sym (append_assoc (filter (λ (r : CharacterRow). nat_lt r.character c) rows) [] (filter (λ (r : CharacterRow). nat_lt c r.character) rows))
 
 -- ---- pairs
 
@@ -52,9 +51,11 @@ variation_inserted c selector glyph rows =
     let row : VariationRow = record { character = c; selector = selector; glyph = glyph } in
     ap (λ l. l ++ row ∷ filter (λ (r : VariationRow). is_gt (ordering_then (nat_cmp r.character c) (nat_cmp r.selector selector))) rows) (preceding c selector rows)
     ∙ ap (λ l. filter (λ (r : VariationRow). precedes r.character r.selector c selector) rows ++ row ∷ l) (following c selector rows)
+    ∙ sym (append_assoc (filter (λ (r : VariationRow). precedes r.character r.selector c selector) rows) (row ∷ []) (filter (λ (r : VariationRow). precedes c selector r.character r.selector) rows))
 
 pub variation_removed : (c selector : ℕ) (rows : List VariationRow)
     → without_key (λ (x y : ℕ × ℕ). ordering_then (nat_cmp x.0 y.0) (nat_cmp x.1 y.1)) (λ (r : VariationRow). (r.character, r.selector)) (c, selector) rows ≡ with_variation c selector None rows
 variation_removed c selector rows =
     ap (λ l. l ++ filter (λ (r : VariationRow). is_gt (ordering_then (nat_cmp r.character c) (nat_cmp r.selector selector))) rows) (preceding c selector rows)
     ∙ ap (λ l. filter (λ (r : VariationRow). precedes r.character r.selector c selector) rows ++ l) (following c selector rows)
+    ∙ sym (append_assoc (filter (λ (r : VariationRow). precedes r.character r.selector c selector) rows) [] (filter (λ (r : VariationRow). precedes c selector r.character r.selector) rows))

@@ -1,5 +1,5 @@
 -- The glyphs of characters and of variation sequences where one is set.
-use Rattle.std.proofs.Common.{◌≡◌, ℕ, ◌<◌, ◌==◌, ◌&&◌, Bool, true, false, if◌then◌else◌, List, [], ◌∷◌, ◌++◌, filter, find, nat_lt, Option, Some, None, option_map, refl, sym, ap, ◌∙◌, inl, inr, arith}
+use Rattle.std.proofs.Common.{◌≡◌, ℕ, ◌<◌, ◌==◌, ◌&&◌, Bool, true, false, if◌then◌else◌, List, [], ◌∷◌, ◌++◌, filter, find, nat_lt, Option, Some, None, option_map, refl, ap, ◌∙◌, append_assoc, inl, inr, arith}
 use Rattle.std.specs.Option.{option_or}
 use Rattle.std.proofs.lemmas.Bool.{cases_Bool, cases_order, and_parts}
 use Rattle.std.proofs.lemmas.Bool.Decides.{nat_tests}
@@ -33,7 +33,7 @@ or_none (Some x) = refl
 
 -- a record among those before, its own and those after
 found_in_three : {R : Type 0} (test : R → Bool) (before own after : List R) → find test (before ++ own ++ after) ≡ option_or (find test before) (option_or (find test own) (find test after))
-found_in_three test before own after = find-append test before (own ++ after) ∙ ap (option_or (find test before)) (find-append test own after)
+found_in_three test before own after = ap (find test) (append_assoc before own after) ∙ find-append test before (own ++ after) ∙ ap (option_or (find test before)) (find-append test own after)
 
 -- ---- characters
 
