@@ -1,12 +1,13 @@
 -- The rows of a character map where one is set.
-use Rattle.std.proofs.Common.{◌≡◌, ℕ, List, [], ◌∷◌, ◌++◌, filter, nat_lt, Some, None, sym, ap, ◌∙◌, append_assoc, arith}
+use Rattle.std.proofs.Common.{◌≡◌, ℕ, List, [], ◌∷◌, ◌++◌, filter, nat_lt, Option, Some, None, sym, ap, ◌∙◌, append_assoc, arith}
 use Rattle.std.specs.Ordering.{is_lt, is_gt, nat_cmp, ordering_then}
 use Rattle.std.proofs.lemmas.Bool.Decides.{nat_tests}
 use Rattle.std.proofs.lemmas.List.Elements.{filter_agree}
 use Rattle.buffer_rows.specs.Keys.{with_inserted, without_key}
 use Rattle.layout_face.specs.declared.parts.CharacterRow.{CharacterRow}
+use Rattle.layout_face.specs.declared.parts.FaceParts.{FaceParts}
 use Rattle.layout_face.specs.declared.parts.VariationRow.{VariationRow}
-use Rattle.layout_face.specs.CharacterMap.{precedes, with_character, with_variation}
+use Rattle.layout_face.specs.CharacterMap.{precedes, with_character, with_variation, with_variation_glyph}
 
 less_test : (a b : ℕ) → is_lt (nat_cmp a b) ≡ nat_lt a b
 less_test a b = grind (arith, nat_tests)
@@ -59,3 +60,7 @@ variation_removed c selector rows =
     ap (λ l. l ++ filter (λ (r : VariationRow). is_gt (ordering_then (nat_cmp r.character c) (nat_cmp r.selector selector))) rows) (preceding c selector rows)
     ∙ ap (λ l. filter (λ (r : VariationRow). precedes r.character r.selector c selector) rows ++ l) (following c selector rows)
     ∙ sym (append_assoc (filter (λ (r : VariationRow). precedes r.character r.selector c selector) rows) [] (filter (λ (r : VariationRow). precedes c selector r.character r.selector) rows))
+
+-- a font with the rows of a set variation sequence
+pub variation_set : (c selector : ℕ) (glyph : Option ℕ) (font now : FaceParts) (rows : List VariationRow) → font ≡ now → rows ≡ with_variation c selector glyph font.variants → record font { variants = rows } ≡ with_variation_glyph c selector glyph now
+variation_set c selector glyph font now rows same set = ap (λ (v : List VariationRow). record font { variants = v }) set ∙ ap (with_variation_glyph c selector glyph) same

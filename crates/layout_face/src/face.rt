@@ -128,7 +128,6 @@ impl Face {
 
     /// Sets the glyph of a character with a variation selector, as a client's own character map gives it, or takes it
     /// away.
-    #[tactic(auto, using(crate::proofs::CharacterMap::variation_inserted, crate::proofs::CharacterMap::variation_removed))]
     pub fn set_variation_glyph(
         &mut self,
         c: char,
