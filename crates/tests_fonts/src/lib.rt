@@ -7,6 +7,8 @@
 #[cfg(test)]
 mod bytes;
 #[cfg(test)]
+mod carets;
+#[cfg(test)]
 mod cff;
 #[cfg(test)]
 mod character_map;
