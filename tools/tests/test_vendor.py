@@ -216,7 +216,7 @@ class Whole(unittest.TestCase):
                 self.assertTrue((Path(folder) / "crates" / crate / "src" / "lib.rt").is_file(), crate)
             with contextlib.redirect_stdout(io.StringIO()):
                 cli.main(["--with", cli.CLIENTS, folder])
-            self.assertEqual(set(read_crates(Path(folder))) - set(crates), set(cli.CLIENTS.split(",")))
+            self.assertEqual(set(read_crates(Path(folder))) - set(crates), {*cli.CLIENTS.split(","), "font_carets"})
 
     @unittest.skipUnless(LONG and shutil.which("rt"), "minutes, or an hour's proofs: KUSPVELI_LONG=1 runs it")
     def test_client(self) -> None:

@@ -6,9 +6,8 @@ use Rattle.std.specs.List.Sorted.{IsNonDecreasing, IsPartitionPoint}
 use Rattle.std.proofs.lemmas.Bool.Decides.{nat_tests}
 use Rattle.std.proofs.lemmas.Grind.{common_steps}
 use Rattle.std.proofs.lemmas.List.{append-nil}
-use Rattle.caret_model.specs.declared.carets.Caret.{Caret}
 use Rattle.caret_model.specs.Parted.{IsStart}
-use Rattle.caret_model.specs.Stops.{AreStops, carets_between, is_between, stops_between}
+use Rattle.caret_model.specs.Stops.{AreStops, is_between, stops_between}
 
 -- ---- stops rise
 
@@ -107,18 +106,3 @@ none_parted ss lo hi from to first last le = let none : to - from ≡ 0 = omega 
 
 pub between_parted : (ss : List ℕ) (lo hi from to : ℕ) → IsStart ss (lo + 1) from → IsStart ss hi to → stops_between ss lo hi ≡ slice_range ss from to
 between_parted ss lo hi from to first last = parted ss lo hi from to first last
-
--- where there are none, no caret is appended
-none_added : (found : List Caret) (c d : Caret) (ss : List ℕ) → ss ≡ [] → found ≡ found ++ carets_between c d ss
-none_added found c d ss none = sym (append-nil found) ∙ ap (λ xs. found ++ carets_between c d xs) (sym none)
-
-pub none_after : (found : List Caret) (c d : Caret) (stops : List ℕ) → d.byte ≤ c.byte → found ≡ found ++ carets_between c d (stops_between stops c.byte d.byte)
-none_after found c d stops le = none_added found c d (stops_between stops c.byte d.byte) (none_between stops c.byte d.byte le)
-
-pub none_inside : (found : List Caret) (c d : Caret) (stops : List ℕ) (from to : ℕ) → IsStart stops (c.byte + 1) from → IsStart stops d.byte to → to ≤ from
-    → found ≡ found ++ carets_between c d (stops_between stops c.byte d.byte)
-none_inside found c d stops from to first last le = none_added found c d (stops_between stops c.byte d.byte) (none_parted stops c.byte d.byte from to first last le)
-
-pub some_inside : (found new : List Caret) (c d : Caret) (stops : List ℕ) (from to : ℕ) → IsStart stops (c.byte + 1) from → IsStart stops d.byte to
-    → new ≡ found ++ carets_between c d (slice_range stops from to) → new ≡ found ++ carets_between c d (stops_between stops c.byte d.byte)
-some_inside found new c d stops from to first last added = added ∙ ap (λ xs. found ++ carets_between c d xs) (sym (between_parted stops c.byte d.byte from to first last))

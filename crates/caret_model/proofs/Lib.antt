@@ -16,3 +16,4 @@ pub mod TextOrder
 pub mod Divided
 pub mod Units
 pub mod Stopped
+pub mod GivenCarets

@@ -4,5 +4,6 @@ pub mod Selections
 pub mod Laws
 pub mod Closer
 pub mod Pens
+pub mod Ligatures
 pub mod Stops
 pub mod Parted

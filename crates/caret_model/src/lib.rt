@@ -5,6 +5,7 @@
 
 mod carets;
 pub mod laws;
+mod ligatures;
 mod line;
 mod model;
 mod moves;

@@ -4,16 +4,17 @@ ghost use Rattle.kuspveli.specs.shaping_buffer.buffer_core.Sides.{all_glyphs};
 ghost use Rattle.caret_model.specs.Lines.{HasLine, IsFaultOf, IsFaultTo, IsLineOf, IsLineTo};
 ghost use Rattle.caret_model.specs.Moves.{IsClosest, IsNearest, IsSliceAt, caret_at, next_visual, previous_visual};
 ghost use Rattle.caret_model.specs.Selections.{selection_between, selection_of};
-ghost use Rattle.caret_model.specs.Stops.{AreStops, carets_at_stops};
+ghost use Rattle.caret_model.specs.Stops.{AreStops, carets_at_stops, carets_by_font};
 
 use crate::carets::{Caret, CaretFault, Selection};
 use crate::line::{are_at_beginning, carets_of};
 use crate::moves::{closest, get, index_at, nearest};
 use crate::stops::{are_stops, with_stops};
+use font_carets::{LigatureCarets, SortedRows, no_ligatures};
 use kuspveli::hb_shape::fitting::slices_fit;
 use kuspveli::hb_shape::{SourceSlice, source_slices};
 use kuspveli::laws::slices::laws::law_source_slices_join;
-use kuspveli::{Direction, GlyphBuffer};
+use kuspveli::{Direction, GlyphBuffer, GlyphInfo};
 use std::alloc::Global;
 use std::marker::Model;
 
@@ -166,10 +167,53 @@ impl CaretModel {
         ensures fault { IfErr result (λ e. e ≢ CaretFault.OutOfMemory
             → (e ≡ CaretFault.InvalidStops) × (¬ AreStops self.now.end 0 stops.now)) }
     {
+        self.carets_in(alloc, &no_ligatures(alloc), &[], stops)
+    }
+
+    /// The carets in the order of the text, as `carets_at_stops` has them, but for clusters for which a font gives carets
+    /// (GDEF, the ligature caret list), as many as there are stops inside: there they stand at the font's coordinates from the
+    /// left edge of the cluster, none past its right edge. `glyphs` are those of the line, which is a horizontal one.
+    pub fn carets_by_font(
+        &self,
+        alloc: Global,
+        ligatures: &SortedRows<LigatureCarets>,
+        glyphs: &GlyphBuffer,
+        stops: &[usize],
+    ) -> Result<Vec<Caret>, CaretFault>
+        ensures carets { IfOk result
+            (λ carets. carets.items ≡ carets_by_font self.now ligatures.now (all_glyphs glyphs.now) stops.now) }
+        ensures may { OnOk result (AreStops self.now.end 0 stops.now) }
+        ensures fault { IfErr result (λ e. e ≢ CaretFault.OutOfMemory
+            → (e ≡ CaretFault.InvalidStops) × (¬ AreStops self.now.end 0 stops.now)) }
+    {
+        self.carets_in(alloc, ligatures, glyphs.glyph_infos(), stops)
+    }
+
+    fn carets_in(
+        &self,
+        alloc: Global,
+        ligatures: &SortedRows<LigatureCarets>,
+        glyphs: &[GlyphInfo],
+        stops: &[usize],
+    ) -> Result<Vec<Caret>, CaretFault>
+        ensures carets { IfOk result
+            (λ carets. carets.items ≡ carets_by_font self.now ligatures.now glyphs.now stops.now) }
+        ensures may { OnOk result (AreStops self.now.end 0 stops.now) }
+        ensures fault { IfErr result (λ e. e ≢ CaretFault.OutOfMemory
+            → (e ≡ CaretFault.InvalidStops) × (¬ AreStops self.now.end 0 stops.now)) }
+    {
         if !are_stops(self.end, stops) {
             return Err(CaretFault::InvalidStops);
         }
-        let carets = with_stops(alloc, &self.carets, self.backward, stops)?;
+        let carets = with_stops(
+            alloc,
+            &self.carets,
+            self.backward,
+            ligatures,
+            glyphs,
+            &self.slices,
+            stops,
+        )?;
         Ok(carets)
     }
 

@@ -2,10 +2,14 @@
 ghost use Rattle.std.specs.Prelude.{◌≡◌, ◌≤◌, ◌<◌, ◌+◌, ◌-ℤ◌, ◌++◌, ◌↔◌, IfOk, IsTrue, OnOk, length, slice_get, Some};
 ghost use Rattle.std.specs.Int.RustNames.{unsigned_abs};
 ghost use Rattle.std.specs.List.Sorted.{IsNonDecreasing};
-ghost use Rattle.caret_model.specs.Stops.{AreStops, carets_between, divided_caret, in_text_order, moved_towards, steps_length, stops_between, with_stops};
+ghost use Rattle.caret_model.specs.Stops.{AreStops, carets_between, distance_of, divided_caret, given_caret, given_carets, in_text_order, inner_carets, moved_towards, own_carets, position_within, steps_length, stops_between, with_stops};
 ghost use Rattle.caret_model.specs.Parted.{IsStart};
 
 use crate::carets::Caret;
+use crate::ligatures::run_carets;
+use font_carets::{LigatureCarets, SortedRows};
+use kuspveli::GlyphInfo;
+use kuspveli::hb_shape::SourceSlice;
 use std::alloc::{AllocError, Global};
 
 /// Whether stops rise from after byte 0, and none is past the end of the text.
@@ -29,65 +33,95 @@ fn is_stop(end: usize, last: usize, stop: usize) -> bool
     last < stop && stop <= end
 }
 
-/// The carets of a line, which come from left to right, in the order of the text, with those at stops inside of clusters.
+/// The carets of a line, which come from left to right, in the order of the text, with those at stops inside of clusters, by
+/// ligatures of a font and the glyphs and runs of the line.
 #[tactic(auto, using(crate::proofs::Stopped::none_stopped, crate::proofs::Stopped::first_stopped, crate::proofs::Stopped::next_stopped, crate::proofs::Stopped::all_stopped))]
 pub(crate) fn with_stops(
     alloc: Global,
     carets: &[Caret],
     backward: bool,
+    ligatures: &SortedRows<LigatureCarets>,
+    glyphs: &[GlyphInfo],
+    slices: &[SourceSlice],
     stops: &[usize],
 ) -> Result<Vec<Caret>, AllocError>
     requires { IsNonDecreasing stops.now }
-    ensures { IfOk result (λ found. found.items ≡ with_stops stops.now (in_text_order backward carets.now)) }
+    ensures { IfOk result (λ found. found.items ≡ with_stops backward
+        (own_carets ligatures.now glyphs.now slices.now backward) stops.now (in_text_order backward carets.now)) }
 {
     let mut found = Vec::new(alloc);
     if carets.is_empty() {
         return Ok(found);
     }
-    let mut last = text_caret(carets, backward, 0);
+    let mut last = text_item(carets, backward, 0);
     found.push(last)?;
     for i in 1..carets.len() {
-        let next = text_caret(carets, backward, i);
-        push_between(&mut found, last, next, stops)?;
+        let next = text_item(carets, backward, i);
+        let own = run_carets(ligatures, glyphs, text_slice(slices, backward, i - 1));
+        push_inner(&mut found, (last, next), backward, own, stops)?;
         found.push(next)?;
         last = next;
     }
     Ok(found)
 }
 
-/// A caret by its index in the order of the text.
-#[tactic(auto, using(crate::proofs::TextOrder::forward_caret, crate::proofs::TextOrder::backward_caret))]
-fn text_caret(carets: &[Caret], backward: bool, i: usize) -> Caret
-    requires { i < length carets.now }
-    ensures { slice_get (in_text_order backward carets.now) i ≡ Some result }
+/// An item by its index in the order of the text.
+#[tactic(auto, using(crate::proofs::TextOrder::forward_item, crate::proofs::TextOrder::backward_item))]
+fn text_item<T: Copy>(items: &[T], backward: bool, i: usize) -> T
+    requires { i < length items.now }
+    ensures { slice_get (in_text_order backward items.now) i ≡ Some result }
 {
     if backward {
-        return carets[carets.len() - 1 - i];
+        return items[items.len() - 1 - i];
     }
-    carets[i]
+    items[i]
 }
 
-/// Appends the carets at the stops between two carets.
-fn push_between(
+/// A run by its index in the order of the text, none past the last one.
+#[tactic(auto, using(crate::proofs::TextOrder::none_past))]
+fn text_slice(slices: &[SourceSlice], backward: bool, i: usize) -> Option<SourceSlice>
+    ensures { result ≡ slice_get (in_text_order backward slices.now) i }
+{
+    if i >= slices.len() {
+        return None;
+    }
+    Some(text_item(slices, backward, i))
+}
+
+/// Appends the carets at the stops between two carets of the text, by the coordinates that the font gives from left to right.
+fn push_inner(
     found: &mut Vec<Caret>,
-    first: Caret,
-    last: Caret,
+    ends: (Caret, Caret),
+    backward: bool,
+    own: &[i16],
     stops: &[usize],
 ) -> Result<(), AllocError>
     requires { IsNonDecreasing stops.now }
-    ensures { OnOk result (found.new.items
-        ≡ found.old.items ++ carets_between first last (stops_between stops.now first.byte last.byte)) }
+    ensures { OnOk result (found.new.items ≡ found.old.items
+        ++ inner_carets backward own.now ends.0 ends.1 (stops_between stops.now ends.0.byte ends.1.byte)) }
 {
-    if last.byte <= first.byte {
-        return Ok(());
+    let between = stops_between(stops, ends.0.byte, ends.1.byte);
+    if own.len() == between.len() {
+        push_given(found, ends, backward, own, between)
+    } else {
+        push_divided(found, ends.0, ends.1, between)
     }
-    let from = first_from(stops, first.byte + 1);
-    let to = first_from(stops, last.byte);
+}
+
+/// The stops between two bytes.
+fn stops_between(stops: &[usize], first: usize, last: usize) -> &[usize]
+    requires { IsNonDecreasing stops.now }
+    ensures { result.now ≡ stops_between stops.entry.now first last }
+{
+    if last <= first {
+        return &[];
+    }
+    let from = first_from(stops, first + 1);
+    let to = first_from(stops, last);
     if to <= from {
-        return Ok(());
+        return &[];
     }
-    push_divided(found, first, last, &stops[from..to])?;
-    Ok(())
+    &stops[from..to]
 }
 
 /// The index of the first stop at a byte or after it.
@@ -129,6 +163,59 @@ fn divided_caret(first: Caret, last: Caret, steps: usize, step: usize, stop: usi
         byte: stop,
         position: moved_towards(first.position, last.position, by),
     }
+}
+
+/// Appends the carets at all these stops, which are between two carets of the text, by as many coordinates.
+fn push_given(
+    found: &mut Vec<Caret>,
+    ends: (Caret, Caret),
+    backward: bool,
+    own: &[i16],
+    stops: &[usize],
+) -> Result<(), AllocError>
+    requires { length own.now ≡ length stops.now }
+    ensures { OnOk result (found.new.items ≡ found.old.items
+        ++ given_carets backward ends.0 ends.1 stops.now (in_text_order backward own.now)) }
+{
+    for k in 0..stops.len() {
+        let coordinate = text_item(own, backward, k);
+        found.push(given_caret(backward, ends, coordinate, stops[k]))?;
+    }
+    Ok(())
+}
+
+/// The caret at a stop between two carets of the text, by a coordinate from the left one of them.
+fn given_caret(backward: bool, ends: (Caret, Caret), coordinate: i16, stop: usize) -> Caret
+    ensures { result ≡ given_caret backward ends.0 ends.1 coordinate stop }
+{
+    let (first, last) = (ends.0.position, ends.1.position);
+    let position = if backward {
+        position_within(last, first, coordinate)
+    } else {
+        position_within(first, last, coordinate)
+    };
+    Caret {
+        byte: stop,
+        position,
+    }
+}
+
+/// A position that is so far from one edge of a cluster, up to the other edge.
+fn position_within(left: i64, right: i64, coordinate: i16) -> i64
+    ensures { result ≡ position_within left right coordinate }
+{
+    let by = distance_of(coordinate).min(right.abs_diff(left));
+    moved_towards(left, right, by)
+}
+
+/// How far a coordinate is from the left edge of a cluster.
+fn distance_of(coordinate: i16) -> u64
+    ensures { result ≡ distance_of coordinate }
+{
+    if coordinate < 0 {
+        return 0;
+    }
+    u64::from(coordinate.unsigned_abs())
 }
 
 /// How far some of the steps lead that divide a distance evenly.
