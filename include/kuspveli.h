@@ -352,6 +352,11 @@ int32_t kus_font_get_glyph_v_advance (kus_font_t *font, uint32_t glyph);
 size_t kus_font_get_feature_tags (kus_font_t *font, uint32_t table, uint32_t *tags, size_t tags_room);
 size_t kus_font_get_script_tags (kus_font_t *font, uint32_t table, uint32_t *tags, size_t tags_room);
 
+/* The carets inside of a ligature that the font's file gives (GDEF, LigCaretList), in font units from the glyph's origin along
+ * a line and in the file's order, as far as there is room; returns how many there are. kus_get_carets uses them. As in
+ * HarfBuzz with its own functions of fonts, one that names a point of the outline is 0. */
+size_t kus_font_get_ligature_carets (kus_font_t *font, uint32_t glyph, int32_t *carets, size_t carets_room);
+
 /* A client's advances by a call, which answers that of a glyph in font units. It is asked once for each glyph; what was
  * asked for is noted in `asked`, which begins with zeros. One of these is for one font, whose handle alone has it. */
 typedef struct {
@@ -571,8 +576,9 @@ kus_status_t kus_cut_lines (kus_font_t *font, size_t end, const size_t *breaks, 
 
 /* The carets of the text, in its order, which are written as far as there is room, *count is how many there are: one before
  * each cluster and one at the end of the text; and one at each of `stops` inside of a cluster, which rise (where UAX 29 lets
- * a caret stand), as between the letters of a ligature: they divide its width evenly, since GDEF's carets of ligatures are
- * not read. Where the glyphs can't be traced to the text it answers KUS_NO_SLICES, as for the text without glyphs. The
+ * a caret stand), as between the letters of a ligature. There it stands where the font's file says (GDEF), on a horizontal
+ * line and if that says it for as many carets as there are stops; else the stops divide the cluster's width evenly. Where the
+ * glyphs can't be traced to the text it answers KUS_NO_SLICES, as for the text without glyphs. The
  * carets of a line are those of its units, less the position of that at its left end. */
 kus_status_t kus_get_carets (kus_font_t *font, size_t end, const size_t *stops, size_t num_stops, kus_caret_t *carets,
                              size_t carets_room, size_t *count);

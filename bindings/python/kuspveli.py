@@ -149,6 +149,7 @@ def load(path: Union[str, "os.PathLike[str]"]) -> ctypes.CDLL:
     declare(found, "kus_font_get_glyph_v_advance", ctypes.c_int32, handle, u32)
     declare(found, "kus_font_get_feature_tags", size, handle, u32, numbers, size)
     declare(found, "kus_font_get_script_tags", size, handle, u32, numbers, size)
+    declare(found, "kus_font_get_ligature_carets", size, handle, u32, ctypes.POINTER(ctypes.c_int32), size)
     sizes, i64 = ctypes.POINTER(size), ctypes.c_int64
     cut = [handle, size, sizes, size, i64, i64, ctypes.POINTER(RawLine), size, sizes]
     declare(found, "kus_cut_lines", u32, *cut)
@@ -861,8 +862,8 @@ class Font(Held):
 
     def carets(self, stops: Iterable[int] = ()) -> list[Caret]:
         """The carets of the last text, in its order: between clusters and at both ends, and at those of `stops`, which rise,
-        that are inside of clusters (as UAX 29 lets a caret stand), as between the letters of a ligature, whose width they
-        divide evenly. Fault where the glyphs can't be traced to the text."""
+        that are inside of clusters (as UAX 29 lets a caret stand), as between the letters of a ligature: where its font's
+        file says (`ligature_carets`), else they divide its width evenly. Fault where the glyphs can't be traced to the text."""
         found, count = list(stops), ctypes.c_size_t()
         given = sizes_of(found, "stop")
         with self._lock:
@@ -925,6 +926,15 @@ class Font(Held):
         """The advance of a glyph in a vertical line, in font units, at most 0."""
         with self._lock:
             return int(LIBRARY.kus_font_get_glyph_v_advance(self._handle, number(glyph, "glyph")))
+
+    def ligature_carets(self, glyph: int) -> list[int]:
+        """The carets inside of a ligature that the font's file gives (GDEF), in font units from the glyph's origin."""
+        call = LIBRARY.kus_font_get_ligature_carets
+        with self._lock:
+            room = call(self._handle, number(glyph, "glyph"), (ctypes.c_int32 * 1)(), 0)
+            found = (ctypes.c_int32 * max(room, 1))()
+            call(self._handle, number(glyph, "glyph"), found, room)
+        return list(found[:room])
 
     def feature_tags(self, table: str) -> list[str]:
         """The tags of the features of a table, "GSUB" or "GPOS", in the order of their indices."""

@@ -323,6 +323,16 @@ impl Font {
         self.handle.with(|font| unsafe { kus_font_get_glyph_v_advance(font, glyph) })
     }
 
+    /// The carets inside of a ligature that the font's file gives (GDEF), in font units from the glyph's origin.
+    pub fn ligature_carets(&self, glyph: u32) -> Vec<i32> {
+        let call = |carets: *mut i32, room: usize| {
+            self.handle.with(|font| unsafe { kus_font_get_ligature_carets(font, glyph, carets, room) })
+        };
+        let mut carets = vec![0; call(ptr::NonNull::dangling().as_ptr(), 0)];
+        call(carets.as_mut_ptr(), carets.len());
+        carets
+    }
+
     /// The tags of the features of a table, in the order of their indices; a tag may come more than once.
     pub fn feature_tags(&self, table: Table) -> Vec<Tag> {
         self.tags(kus_font_get_feature_tags, table)
@@ -373,8 +383,8 @@ impl Font {
     }
 
     /// The carets of the last text, whose clusters count up to `end`, in its order: between clusters and at both ends, and at
-    /// those of `stops`, which rise, that are inside of clusters, as between the letters of a ligature, whose width they
-    /// divide evenly. The text without characters has one caret.
+    /// those of `stops`, which rise, that are inside of clusters, as between the letters of a ligature: where its font's
+    /// file says (`ligature_carets`), else they divide its width evenly. The text without characters has one caret.
     pub fn carets(&self, end: usize, stops: &[usize]) -> Result<Vec<Caret>, Fault> {
         if end == 0 && self.count == 0 {
             return Ok(vec![Caret::default()]);

@@ -226,6 +226,12 @@ extern "C" {
     pub(crate) fn kus_font_get_glyph_v_advance(font: *mut Handle, glyph: u32) -> i32;
     pub(crate) fn kus_font_get_feature_tags(font: *mut Handle, table: u32, tags: *mut u32, tags_room: usize) -> usize;
     pub(crate) fn kus_font_get_script_tags(font: *mut Handle, table: u32, tags: *mut u32, tags_room: usize) -> usize;
+    pub(crate) fn kus_font_get_ligature_carets(
+        font: *mut Handle,
+        glyph: u32,
+        carets: *mut i32,
+        carets_room: usize,
+    ) -> usize;
     pub(crate) fn kus_cut_lines(
         font: *mut Handle,
         end: usize,

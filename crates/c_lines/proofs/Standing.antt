@@ -2,9 +2,10 @@
 use Rattle.std.proofs.Common.{ℕ, ◌≡◌, ◌≢◌, List, length, map, inl, inr, sym, ap, subst, ◌∙◌}
 use Rattle.buffer_common.specs.declared.direction.Direction.{Direction}
 use Rattle.buffer_core.specs.Sides.{Sides}
-use Rattle.c_lines.specs.Carets.{AreCaretsOf, IsCaretsRefusal, caret_of}
+use Rattle.c_lines.specs.Carets.{AreCaretsOf, IsCaretsRefusal, caret_of, carets_along}
 use Rattle.c_lines.specs.Numbers.{caret_fault_number}
 use Rattle.c_lines.specs.declared.types.kus_caret_t.{kus_caret_t}
+use Rattle.font_carets.specs.declared.rows.LigatureCarets.{LigatureCarets}
 use Rattle.c_text.specs.Fonts.{KeptFont}
 use Rattle.c_text.specs.Written.{with_front}
 use Rattle.c_text.specs.declared.segment.Segment.{Segment}
@@ -12,12 +13,12 @@ use Rattle.caret_model.specs.declared.carets.Caret.{Caret}
 use Rattle.caret_model.specs.declared.carets.CaretFault.{CaretFault}
 use Rattle.caret_model.specs.declared.carets.CaretFault.TheVariants.{OutOfMemory, InvalidStops}
 use Rattle.caret_model.specs.Lines.{IsFaultTo, IsLineTo, Line}
-use Rattle.caret_model.specs.Stops.{AreStops, carets_at_stops}
+use Rattle.caret_model.specs.Stops.{AreStops}
 
-pub carets_found : (d : Direction) (glyphs : Sides) (end : ℕ) (stops : List ℕ) (line : Line) (found : List Caret) (room now : List kus_caret_t) (count : ℕ)
-    → IsLineTo d glyphs end line → AreStops line.end 0 stops → found ≡ carets_at_stops line stops → count ≡ length found → now ≡ with_front (map caret_of found) room
-    → AreCaretsOf d glyphs end stops room now count
-carets_found d glyphs end stops line found room now count is may same all written = record {
+pub carets_found : (d : Direction) (ligatures : List LigatureCarets) (glyphs : Sides) (end : ℕ) (stops : List ℕ) (line : Line) (found : List Caret) (room now : List kus_caret_t) (count : ℕ)
+    → IsLineTo d glyphs end line → AreStops line.end 0 stops → found ≡ carets_along d ligatures glyphs line stops → count ≡ length found → now ≡ with_front (map caret_of found) room
+    → AreCaretsOf d ligatures glyphs end stops room now count
+carets_found d ligatures glyphs end stops line found room now count is may same all written = record {
   line = line;
   is = is;
   may = subst (λ n. AreStops n 0 stops) is.end may;
@@ -37,12 +38,13 @@ stops_refused d glyphs end stops line e number is same other told =
 
 -- ---- of a font's glyphs
 
-pub carets_of_taken : (f : KeptFont) (s : Segment) (glyphs : Sides) (end : ℕ) (stops : List ℕ) (room now : List kus_caret_t) (count : ℕ)
-    → s ≡ f.segment → glyphs ≡ f.glyphs → AreCaretsOf s.direction glyphs end stops room now count → AreCaretsOf f.segment.direction f.glyphs end stops room now count
-carets_of_taken f s glyphs end stops room now count along same are =
-    let P : Sides → Type 0 = λ gs. AreCaretsOf f.segment.direction gs end stops room now count in
-    let Q : Segment → Type 0 = λ (t : Segment). AreCaretsOf t.direction glyphs end stops room now count in
-    subst P same (subst Q along are)
+pub carets_of_taken : (f : KeptFont) (s : Segment) (ligatures : List LigatureCarets) (glyphs : Sides) (end : ℕ) (stops : List ℕ) (room now : List kus_caret_t) (count : ℕ)
+    → s ≡ f.segment → ligatures ≡ f.ligatures → glyphs ≡ f.glyphs → AreCaretsOf s.direction ligatures glyphs end stops room now count → AreCaretsOf f.segment.direction f.ligatures f.glyphs end stops room now count
+carets_of_taken f s ligatures glyphs end stops room now count along kept same are =
+    let P : Sides → Type 0 = λ gs. AreCaretsOf f.segment.direction f.ligatures gs end stops room now count in
+    let Q : Segment → Type 0 = λ (t : Segment). AreCaretsOf t.direction ligatures glyphs end stops room now count in
+    let R : List LigatureCarets → Type 0 = λ ls. AreCaretsOf f.segment.direction ls glyphs end stops room now count in
+    subst P same (subst R kept (subst Q along are))
 
 pub taken_refuse_carets : (f : KeptFont) (s : Segment) (glyphs : Sides) (end : ℕ) (stops : List ℕ) (number : ℕ)
     → s ≡ f.segment → glyphs ≡ f.glyphs → IsCaretsRefusal s.direction glyphs end stops number → IsCaretsRefusal f.segment.direction f.glyphs end stops number

@@ -1,6 +1,7 @@
 //! Carets of a font's last text.
-ghost use Rattle.std.specs.Prelude.{◌≡◌, ◌≢◌};
-ghost use Rattle.c_lines.specs.Carets.{AreCaretsOf, IsCaretsRefusal, caret_of};
+ghost use Rattle.std.specs.Prelude.{◌≡◌, ◌≢◌, IfErr, IfOk, OnOk};
+ghost use Rattle.caret_model.specs.Stops.{AreStops};
+ghost use Rattle.c_lines.specs.Carets.{AreCaretsOf, IsCaretsRefusal, caret_of, carets_along};
 
 use crate::numbers::caret_fault_number;
 use crate::rows::{Row, write_rows};
@@ -9,7 +10,8 @@ use buffer_common::direction::Direction;
 use buffer_wrappers::glyphs::GlyphBuffer;
 use c_text::font::Font;
 use c_text::numbers::OK;
-use caret_model::{Caret, CaretModel};
+use caret_model::{Caret, CaretFault, CaretModel};
+use font_carets::{LigatureCarets, SortedRows};
 use std::alloc::Global;
 
 impl Row for Caret {
@@ -25,6 +27,27 @@ impl Row for Caret {
     }
 }
 
+/// The carets of a line along a direction and its glyphs, with those at stops.
+fn carets_along(
+    alloc: Global,
+    model: &CaretModel,
+    direction: Direction,
+    ligatures: &SortedRows<LigatureCarets>,
+    glyphs: &GlyphBuffer,
+    stops: &[usize],
+) -> Result<Vec<Caret>, CaretFault>
+    ensures carets { IfOk result
+        (λ found. found.items ≡ carets_along direction ligatures.now glyphs.now model.now stops.now) }
+    ensures may { OnOk result (AreStops model.now.end 0 stops.now) }
+    ensures fault { IfErr result (λ e. e ≢ CaretFault.OutOfMemory
+        → (e ≡ CaretFault.InvalidStops) × (¬ AreStops model.now.end 0 stops.now)) }
+{
+    if direction.is_horizontal() {
+        return model.carets_by_font(alloc, ligatures, glyphs, stops);
+    }
+    model.carets_at_stops(alloc, stops)
+}
+
 /// The carets of glyphs along a direction, of a text of `end` units, as many as there is room for, and how many there are;
 /// answers a status.
 #[tactic(auto, using(crate::proofs::Standing::carets_found, crate::proofs::Standing::line_refused, crate::proofs::Standing::stops_refused))]
@@ -32,13 +55,14 @@ fn write_found(
     alloc: Global,
     glyphs: &GlyphBuffer,
     direction: Direction,
+    ligatures: &SortedRows<LigatureCarets>,
     end: usize,
     stops: &[usize],
     carets: &mut [kus_caret_t],
     count: &mut usize,
 ) -> u32
     requires { count.old ≡ 0 }
-    ensures carets { result ≡ 0 → AreCaretsOf direction glyphs.now end stops.now carets.old carets.new count.new }
+    ensures carets { result ≡ 0 → AreCaretsOf direction ligatures.now glyphs.now end stops.now carets.old carets.new count.new }
     ensures refused { result ≢ 0 → result ≢ 1 → IsCaretsRefusal direction glyphs.now end stops.now result }
     ensures none { result ≢ 0 → (count.new ≡ 0) × (carets.new ≡ carets.old) }
 {
@@ -46,7 +70,7 @@ fn write_found(
         Ok(model) => model,
         Err(fault) => return caret_fault_number(fault),
     };
-    let found = match model.carets_at_stops(alloc, stops) {
+    let found = match carets_along(alloc, &model, direction, ligatures, glyphs, stops) {
         Ok(found) => found,
         Err(fault) => return caret_fault_number(fault),
     };
@@ -69,14 +93,24 @@ pub fn write_carets(
     requires { count.old ≡ 0 }
     ensures same { font.new ≡ font.old }
     ensures carets { result ≡ 0
-        → AreCaretsOf font.old.segment.direction font.old.glyphs end stops.now carets.old carets.new count.new }
+        → AreCaretsOf font.old.segment.direction font.old.ligatures font.old.glyphs end stops.now carets.old
+        carets.new count.new }
     ensures refused { result ≢ 0 → result ≢ 1
         → IsCaretsRefusal font.old.segment.direction font.old.glyphs end stops.now result }
     ensures none { result ≢ 0 → (count.new ≡ 0) × (carets.new ≡ carets.old) }
 {
     let direction = font.segment().direction;
     let glyphs = font.take_glyphs(alloc);
-    let status = write_found(alloc, &glyphs, direction, end, stops, carets, count);
+    let status = write_found(
+        alloc,
+        &glyphs,
+        direction,
+        font.ligatures(),
+        end,
+        stops,
+        carets,
+        count,
+    );
     font.put_glyphs(glyphs);
     status
 }

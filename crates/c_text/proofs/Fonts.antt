@@ -22,7 +22,7 @@ use Rattle.shell_readers.proofs.Reading.{both_read, font_refused, tables_faulty}
 
 -- a font that was read over lawful tables is, with them, what reading both gives
 pub input_of_font : (tables font : List ℕ) (t : TextTables) (i : RunInput) (f : KeptFont)
-    → AreLawfulTables tables (Ok (tables_value t)) → i.tables ≡ t → font_in font ≡ Ok i.face → f ≡ new_font None i → IsInput tables font (Ok (input_value f.input))
+    → AreLawfulTables tables (Ok (tables_value t)) → i.tables ≡ t → font_in font ≡ Ok i.face → f ≡ new_font i → IsInput tables font (Ok (input_value f.input))
 input_of_font tables font t i f lawful same is new =
     let P : TextTables → Type 0 = λ x. AreLawfulTables tables (Ok (tables_value x)) in
     let Q : RunInput → Type 0 = λ x. IsInput tables font (Ok (input_value x)) in

@@ -10,6 +10,8 @@ use Rattle.script_categories.specs.LongestMatch.{syllable_at}
 use Rattle.shape_pipeline.specs.Results.{IsRefusedBy, IsShapedBy}
 use Rattle.shape_pipeline.specs.Shaped.{by_text}
 use Rattle.shape_pipeline.specs.Shaping.{Shaping}
+use Rattle.font_carets.specs.File.{ligature_carets}
+use Rattle.font_carets.specs.declared.rows.LigatureCarets.{LigatureCarets}
 use Rattle.font_file.specs.declared.parts.FontParts.{FontParts}
 use Rattle.shell_fonts.specs.Fonts.{AreLibraryTables, font_of}
 use Rattle.shell_readers.specs.declared.fault.RunFault.{RunFault}
@@ -33,17 +35,23 @@ use Rattle.c_text.specs.Scale.{is_set, multipliers, scaled_positions}
 use Rattle.c_text.specs.Texts.{IsTextOf, features_of, text_fault}
 use Rattle.c_text.specs.Written.{position_of}
 
--- a font with its tables, the metrics of its lines and the scale of its positions, and of the last text that was shaped in it the glyphs, the direction and the script
+-- a font with its tables, the metrics of its lines, the ligatures for which its file gives carets and the scale of its positions,
+-- and of the last text that was shaped in it the glyphs, the direction and the script
 pub record KeptFont : Type 0 where
   pub input : RunInput
   pub line : Option LineSpacing
+  pub ligatures : List LigatureCarets
   pub scale : Scale
   pub glyphs : Sides
   pub segment : Segment
 
--- a font in font units in which no text was shaped
-abbrev pub new_font : Option LineSpacing → RunInput → KeptFont
-new_font line input = record { input = input; line = line; scale = NO_SCALE; glyphs = empty_buffer; segment = NO_SEGMENT }
+-- a font in font units in which no text was shaped, without what a font file alone gives
+abbrev pub new_font : RunInput → KeptFont
+new_font input = record { input = input; line = None; ligatures = []; scale = NO_SCALE; glyphs = empty_buffer; segment = NO_SEGMENT }
+
+-- a font of a font file in which no text was shaped
+abbrev pub file_font : List ℕ → ℕ → RunInput → KeptFont
+file_font bytes index input = record (new_font input) { line = spacing_in bytes index; ligatures = ligature_carets bytes index }
 
 -- a font without the last text
 abbrev pub without_text : KeptFont → KeptFont
@@ -69,6 +77,11 @@ abbrev pub positions_of : Option KeptFont → List kus_glyph_position_t
 positions_of None = []
 positions_of (Some f) = positions_in f
 
+-- the ligatures for which a font's file gives carets; none where there is no font
+abbrev pub ligatures_of : Option KeptFont → List LigatureCarets
+ligatures_of None = []
+ligatures_of (Some f) = f.ligatures
+
 -- what was read of the font, if there is one
 abbrev pub input_of : Option KeptFont → Option RunInput
 input_of font = option_map (λ (f : KeptFont). f.input) font
@@ -85,14 +98,14 @@ segment_in font = option_map_or (λ (f : KeptFont). f.segment) font NO_SEGMENT
 pub record HasRead (tables font : List ℕ) (kept : Option KeptFont) : Type 0 where
   pub input : RunInput
   pub read : IsInput tables font (Ok (input_value input))
-  pub new : kept ≡ Some (new_font None input)
+  pub new : kept ≡ Some (new_font input)
 
 -- a font is what the reader answers to its bytes, over tables that are there
 pub record HasReadOver (shared : Option TextTables) (font : List ℕ) (kept : Option KeptFont) : Type 0 where
   pub input : RunInput
   pub tables : shared ≡ Some input.tables
   pub read : font_in font ≡ Ok input.face
-  pub new : kept ≡ Some (new_font None input)
+  pub new : kept ≡ Some (new_font input)
 
 -- tables are lawful, and what the reader answers to bytes
 pub record HasReadTables (bytes : List ℕ) (kept : Option TextTables) : Type 0 where
@@ -111,14 +124,14 @@ pub record HasReadFileOver (shared : Option TextTables) (parts : FontParts) (byt
   pub input : RunInput
   pub tables : shared ≡ Some input.tables
   pub read : font_of parts bytes index ≡ Ok input.face
-  pub new : kept ≡ Some (new_font (spacing_in bytes index) input)
+  pub new : kept ≡ Some (file_font bytes index input)
 
 -- a font is what the reader answers to parts of a font of a font file, over the tables that the library has
 pub record HasReadFile (parts : FontParts) (bytes : List ℕ) (index : ℕ) (kept : Option KeptFont) : Type 0 where
   pub input : RunInput
   pub tables : AreLibraryTables (Ok (tables_value input.tables))
   pub read : font_of parts bytes index ≡ Ok input.face
-  pub new : kept ≡ Some (new_font (spacing_in bytes index) input)
+  pub new : kept ≡ Some (file_font bytes index input)
 
 -- the fault of a font file that is read over the tables that the library has: that of these, else the font's
 abbrev pub IsFaultOfFile : FontParts → List ℕ → ℕ → RunFault → Type 0

@@ -16,6 +16,7 @@ use Rattle.shape_slices.specs.Runs.{AreSourceSlices}
 use Rattle.c_text.specs.declared.types.kus_line_metrics_t.{kus_line_metrics_t}
 use Rattle.c_text.specs.declared.types.kus_slice_t.{kus_slice_t}
 use Rattle.c_text.specs.Written.{feature_tag, line_metrics_of, script_tag, slice_of, with_front}
+use Rattle.font_carets.specs.Rows.{glyph_carets}
 use Rattle.c_text.specs.Fonts.{KeptFont}
 
 -- ---- fonts
@@ -58,6 +59,11 @@ h_advance_in (Some f) glyph = if nat_lt glyph 0x1_0000 then pos (width_of glyph 
 abbrev pub v_advance_in : Option KeptFont → ℕ → ℤ
 v_advance_in None glyph = pos 0
 v_advance_in (Some f) glyph = if nat_lt glyph 0x1_0000 then neg_ℤ (pos (height_of glyph f.input.face)) else pos 0
+
+-- the carets of a ligature (OpenType, table GDEF), in font units; none where the font's file gives none
+abbrev pub carets_in : Option KeptFont → ℕ → List ℤ
+carets_in None glyph = []
+carets_in (Some f) glyph = glyph_carets f.ligatures glyph
 
 -- the lists of the layout table that a tag names: GSUB or GPOS
 abbrev pub layout_in : FaceParts → ℕ → Option LayoutLists

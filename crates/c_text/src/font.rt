@@ -6,12 +6,12 @@ ghost use Rattle.shell_fonts.specs.Fonts.{AreLibraryTables, font_of};
 ghost use Rattle.shell_readers.specs.Input.{IsInput, font_in, input_value};
 ghost use Rattle.shell_readers.specs.Tables.{tables_value};
 ghost use Rattle.c_text.specs.Advances.{advances_refusal};
-ghost use Rattle.c_text.specs.Fonts.{AreGlyphsOf, HasSegmentOf, IsFaultOf, IsFaultOfFile, font_with_advances, new_font, positions_in, without_text};
-ghost use Rattle.c_text.specs.LineSpacing.{spacing_in};
+ghost use Rattle.c_text.specs.Fonts.{AreGlyphsOf, HasSegmentOf, IsFaultOf, IsFaultOfFile, file_font, font_with_advances, new_font, positions_in, without_text};
 ghost use Rattle.c_text.specs.Plans.{HasPlansOf};
 ghost use Rattle.c_text.specs.Queries.{AreSlicesOf, IsSlicesRefusal};
 
 use crate::input::{Input, Tables};
+use crate::ligatures::Ligatures;
 use crate::line_spacing::{LineSpacing, spacing_in};
 use crate::plan::{KEPT_PLANS, shape_kept};
 use crate::queries::write_slices;
@@ -24,6 +24,7 @@ use crate::types::{
 use crate::written::write_front;
 use buffer_core::buffer::hb_buffer_t;
 use buffer_wrappers::glyphs::GlyphBuffer;
+use font_carets::{LigatureCarets, SortedRows};
 use font_file::FontParts;
 use layout_face::Face;
 use plan_cache::PlanCache;
@@ -38,6 +39,7 @@ pub struct Font {
     input: Input,
     plans: PlanCache,
     line: Option<LineSpacing>,
+    ligatures: Ligatures,
     scale: Scale,
     // The last text's glyphs, in the buffer in which the next text is shaped.
     buffer: hb_buffer_t,
@@ -52,25 +54,28 @@ impl Model for Font {
     ghost use Rattle.c_text.specs.Plans.{HasPlansOf};
     ghost use Rattle.std.specs.Prelude.{◌≡◌, false};
 
-    ghost view = { λ f. record { input = f.input; line = f.line; scale = f.scale; glyphs = f.buffer; segment = f.segment } };
+    ghost view = { λ f. record { input = f.input; line = f.line; ligatures = f.ligatures; scale = f.scale; glyphs = f.buffer; segment = f.segment } };
 
     ghost invariant = { λ f. (HasPlansOf f.input f.plans) × (f.buffer.is_open ≡ false) };
 }
 
 impl Font {
-    /// Of tables and a font, with the metrics of its lines; no text was shaped.
+    /// Of tables and a font, with the metrics of its lines and the carets of its ligatures; no text was shaped.
     fn new(
         alloc: Global,
         input: Input,
         line: Option<LineSpacing>,
+        ligatures: Ligatures,
         scale: Scale,
     ) -> Result<Box<Font>, AllocError>
-        ensures { IfOk result (λ f. f.value ≡ record (new_font line input) { scale = scale }) }
+        ensures { IfOk result
+            (λ f. f.value ≡ record (new_font input) { line = line; ligatures = ligatures; scale = scale }) }
     {
         let font = Font {
             input,
             plans: PlanCache::new(alloc, KEPT_PLANS),
             line,
+            ligatures,
             scale,
             buffer: hb_buffer_t::new(alloc),
             segment: NO_SEGMENT,
@@ -79,29 +84,62 @@ impl Font {
         Ok(made)
     }
 
+    /// Of tables and a font that is of no font file.
+    fn plain(alloc: Global, input: Input) -> Result<Box<Font>, AllocError>
+        ensures { IfOk result (λ f. f.value ≡ new_font input) }
+    {
+        match Ligatures::none(alloc) {
+            Ok(ligatures) => Font::new(alloc, input, None, ligatures, NO_SCALE),
+            Err(error) => {
+                drop(input);
+                Err(error)
+            }
+        }
+    }
+
+    /// Of tables and a font of a font file, whose other parts are read too.
+    fn of_file(
+        alloc: Global,
+        input: Input,
+        bytes: &[u8],
+        index: usize,
+    ) -> Result<Box<Font>, AllocError>
+        ensures { IfOk result (λ f. f.value ≡ file_font bytes.now index input) }
+    {
+        match Ligatures::read(alloc, bytes, index) {
+            Ok(ligatures) => {
+                Font::new(alloc, input, spacing_in(bytes, index), ligatures, NO_SCALE)
+            }
+            Err(error) => {
+                drop(input);
+                Err(error)
+            }
+        }
+    }
+
     /// Reads tables and a font.
     #[tactic(auto, using(crate::proofs::Fonts::input_of_font, crate::proofs::Fonts::fault_of_tables, crate::proofs::Fonts::fault_of_font))]
     pub fn read(alloc: Global, tables: &[u8], font: &[u8]) -> Result<Box<Font>, RunFault>
-        ensures new { IfOk result (λ f. f.value ≡ new_font None f.value.input) }
+        ensures new { IfOk result (λ f. f.value ≡ new_font f.value.input) }
         ensures ok { IfOk result (λ f. IsInput tables.now font.now (Ok (input_value f.value.input))) }
         ensures refused { IfErr result (λ e. e ≢ RunFault.OutOfMemory → IsInput tables.now font.now (Err e)) }
     {
         let tables = Tables::read(alloc, tables)?;
         let input = Input::read(alloc, tables, font)?;
-        let made = Font::new(alloc, input, None, NO_SCALE)?;
+        let made = Font::plain(alloc, input)?;
         Ok(made)
     }
 
     /// Reads a font over tables, which it shares.
     pub fn read_over(alloc: Global, tables: &Tables, font: &[u8]) -> Result<Box<Font>, RunFault>
-        ensures new { IfOk result (λ f. f.value ≡ new_font None f.value.input) }
+        ensures new { IfOk result (λ f. f.value ≡ new_font f.value.input) }
         ensures tables { IfOk result (λ f. f.value.input.tables ≡ tables.now) }
         ensures ok { IfOk result (λ f. font_in font.now ≡ Ok f.value.input.face) }
         ensures refused { IfErr result (λ e. e ≢ RunFault.OutOfMemory → font_in font.now ≡ Err e) }
     {
         let tables = tables.another()?;
         let input = Input::read(alloc, tables, font)?;
-        let made = Font::new(alloc, input, None, NO_SCALE)?;
+        let made = Font::plain(alloc, input)?;
         Ok(made)
     }
 
@@ -113,14 +151,14 @@ impl Font {
         index: usize,
         parts: FontParts,
     ) -> Result<Box<Font>, RunFault>
-        ensures new { IfOk result (λ f. f.value ≡ new_font (spacing_in bytes.now index) f.value.input) }
+        ensures new { IfOk result (λ f. f.value ≡ file_font bytes.now index f.value.input) }
         ensures tables { IfOk result (λ f. f.value.input.tables ≡ tables.now) }
         ensures ok { IfOk result (λ f. font_of parts bytes.now index ≡ Ok f.value.input.face) }
         ensures refused { IfErr result (λ e. e ≢ RunFault.OutOfMemory → font_of parts bytes.now index ≡ Err e) }
     {
         let tables = tables.another()?;
         let input = Input::read_file(alloc, tables, bytes, index, parts)?;
-        let made = Font::new(alloc, input, spacing_in(bytes, index), NO_SCALE)?;
+        let made = Font::of_file(alloc, input, bytes, index)?;
         Ok(made)
     }
 
@@ -132,14 +170,14 @@ impl Font {
         index: usize,
         parts: FontParts,
     ) -> Result<Box<Font>, RunFault>
-        ensures new { IfOk result (λ f. f.value ≡ new_font (spacing_in bytes.now index) f.value.input) }
+        ensures new { IfOk result (λ f. f.value ≡ file_font bytes.now index f.value.input) }
         ensures tables { IfOk result (λ f. AreLibraryTables (Ok (tables_value f.value.input.tables))) }
         ensures ok { IfOk result (λ f. font_of parts bytes.now index ≡ Ok f.value.input.face) }
         ensures refused { IfErr result (λ e. e ≢ RunFault.OutOfMemory → IsFaultOfFile parts bytes.now index e) }
     {
         let tables = Tables::library(alloc)?;
         let input = Input::read_file(alloc, tables, bytes, index, parts)?;
-        let made = Font::new(alloc, input, spacing_in(bytes, index), NO_SCALE)?;
+        let made = Font::of_file(alloc, input, bytes, index)?;
         Ok(made)
     }
 
@@ -147,8 +185,14 @@ impl Font {
     pub fn another(&self, alloc: Global) -> Result<Box<Font>, AllocError>
         ensures { IfOk result (λ f. f.value ≡ without_text self.now) }
     {
-        let input = self.input.another()?;
-        Font::new(alloc, input, self.line, self.scale)
+        let ligatures = self.ligatures.another()?;
+        match self.input.another() {
+            Ok(input) => Font::new(alloc, input, self.line, ligatures, self.scale),
+            Err(error) => {
+                drop(ligatures);
+                Err(error)
+            }
+        }
     }
 
     /// Sets advances of glyphs, in the order of the list; answers a status, and changes nothing where it isn't `OK`. Plans
@@ -174,6 +218,13 @@ impl Font {
         ensures { result ≡ self.now.line }
     {
         self.line
+    }
+
+    /// The ligatures for which the font's file gives carets.
+    pub fn ligatures(&self) -> &SortedRows<LigatureCarets>
+        ensures { result.now ≡ self.now.ligatures }
+    {
+        self.ligatures.rows()
     }
 
     /// What was read of the font.

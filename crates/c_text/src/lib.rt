@@ -7,6 +7,7 @@ pub mod font;
 pub mod formats;
 pub mod handle;
 pub mod input;
+pub mod ligatures;
 pub mod line_spacing;
 pub mod numbers;
 mod plan;

@@ -3,7 +3,7 @@
 //! The functions for tags of features and of scripts have one form, over rows of two types.
 ghost use Rattle.std.specs.Prelude.{◌≡◌, ◌≢◌, Some, length};
 ghost use Rattle.std.specs.Option.{option_copied, option_map};
-ghost use Rattle.c_text.specs.Queries.{AreSlicesOf, IsSlicesRefusal, extents_in, feature_tags, glyph_in, h_advance_in, layout_in, line_metrics_in, name_in, script_tags, v_advance_in};
+ghost use Rattle.c_text.specs.Queries.{AreSlicesOf, IsSlicesRefusal, carets_in, extents_in, feature_tags, glyph_in, h_advance_in, layout_in, line_metrics_in, name_in, script_tags, v_advance_in};
 ghost use Rattle.c_text.specs.Written.{extents_of, with_front};
 
 use crate::font::Font;
@@ -11,6 +11,7 @@ use crate::numbers::{NO_SLICES, NOT_UTF8, OK, OUT_OF_MEMORY};
 use crate::types::{kus_glyph_extents_t, kus_line_metrics_t, kus_slice_t};
 use crate::written::{extents_of, line_metrics_of, write_front};
 use buffer_wrappers::glyphs::GlyphBuffer;
+use font_carets::glyph_carets;
 use layout_face::Face;
 use layout_tables::table::ScriptsAndFeatures;
 use shape_slices::fitting::slices_fit;
@@ -107,6 +108,16 @@ pub fn glyph_v_advance(font: &Font, glyph: u32) -> i32
         return 0;
     };
     font.face().glyph_v_advance(glyph)
+}
+
+/// Writes the carets of a ligature, as many as there is room for; answers how many there are.
+pub fn write_ligature_carets(font: &Font, glyph: u32, carets: &mut [i32]) -> usize
+    ensures count { result ≡ length (carets_in (Some font.now) glyph) }
+    ensures carets { carets.new ≡ with_front (carets_in (Some font.now) glyph) carets.old }
+{
+    let found = glyph_carets(font.ligatures(), glyph);
+    write_front(found, carets);
+    found.len()
 }
 
 /// The lists of the layout table that a tag names.

@@ -103,6 +103,16 @@ impl Written for u8 {
     }
 }
 
+impl Written for i16 {
+    type Form = i32;
+
+    ghost form_of = { λ n. n };
+
+    fn form(&self) -> i32 {
+        i32::from(*self)
+    }
+}
+
 /// Writes as many items as there is room for.
 pub fn write_front<T: Written>(items: &[T], room: &mut [T::Form])
     ensures { room.new ≡ with_front (map T.form_of items.now) room.old }

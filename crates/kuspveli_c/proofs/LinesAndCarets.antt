@@ -5,7 +5,7 @@ use Rattle.c_lines.specs.Carets.{AreCaretsOf, IsCaretsFault, IsCaretsRefusal}
 use Rattle.c_lines.specs.Lines.{AreLinesOf, IsLinesFault, IsLinesRefusal}
 use Rattle.c_lines.specs.declared.types.kus_caret_t.{kus_caret_t}
 use Rattle.c_lines.specs.declared.types.kus_line_t.{kus_line_t}
-use Rattle.c_text.specs.Fonts.{KeptFont, glyphs_of, segment_in}
+use Rattle.c_text.specs.Fonts.{KeptFont, glyphs_of, ligatures_of, segment_in}
 use Rattle.line_pieces.specs.declared.lines.Widths.{Widths}
 
 pub lines_of_font : (font : Option KeptFont) (f : KeptFont) (end : ℕ) (breaks : List ℕ) (widths : Widths) (room now : List kus_line_t) (count : ℕ)
@@ -20,9 +20,9 @@ font_refuses_lines font f end breaks number there refused =
     subst P (sym there) refused
 
 pub carets_of_font : (font : Option KeptFont) (f : KeptFont) (end : ℕ) (stops : List ℕ) (room now : List kus_caret_t) (count : ℕ)
-    → font ≡ Some f → AreCaretsOf f.segment.direction f.glyphs end stops room now count → AreCaretsOf (segment_in font).direction (glyphs_of font) end stops room now count
+    → font ≡ Some f → AreCaretsOf f.segment.direction f.ligatures f.glyphs end stops room now count → AreCaretsOf (segment_in font).direction (ligatures_of font) (glyphs_of font) end stops room now count
 carets_of_font font f end stops room now count there are =
-    let P : Option KeptFont → Type 0 = λ k. AreCaretsOf (segment_in k).direction (glyphs_of k) end stops room now count in
+    let P : Option KeptFont → Type 0 = λ k. AreCaretsOf (segment_in k).direction (ligatures_of k) (glyphs_of k) end stops room now count in
     subst P (sym there) are
 
 pub font_refuses_carets : (font : Option KeptFont) (f : KeptFont) (end : ℕ) (stops : List ℕ) (number : ℕ) → font ≡ Some f → IsCaretsRefusal f.segment.direction f.glyphs end stops number → IsCaretsFault font end stops number

@@ -6,8 +6,7 @@ use Rattle.std.proofs.Math.Seq.{take-nil}
 use Rattle.buffer_core.specs.Sides.{all_glyphs}
 use Rattle.c_text.specs.declared.types.kus_glyph_info_t.{kus_glyph_info_t}
 use Rattle.c_text.specs.declared.types.kus_glyph_position_t.{kus_glyph_position_t}
-use Rattle.c_text.specs.Fonts.{HasLibraryTables, HasRead, HasReadFile, HasReadFileOver, HasReadOver, HasReadTables, IsNumberOf, KeptFont, glyphs_of, new_font, positions_of}
-use Rattle.c_text.specs.LineSpacing.{spacing_in}
+use Rattle.c_text.specs.Fonts.{HasLibraryTables, HasRead, HasReadFile, HasReadFileOver, HasReadOver, HasReadTables, IsNumberOf, KeptFont, file_font, glyphs_of, new_font, positions_of}
 use Rattle.c_text.specs.Numbers.{fault_number}
 use Rattle.c_text.specs.Written.{info_of, with_front}
 use Rattle.font_file.specs.declared.parts.FontParts.{FontParts}
@@ -39,22 +38,22 @@ pub tables_were_read : (bytes : List ℕ) (t : TextTables) (kept : Option TextTa
 tables_were_read bytes t kept same read = record { tables = t; read = read; same = same }
 
 pub font_was_read_over : (tables : Option TextTables) (t : TextTables) (font : List ℕ) (f : KeptFont) (kept : Option KeptFont) → tables ≡ Some t → kept ≡ Some f
-    → f ≡ new_font None f.input → f.input.tables ≡ t → font_in font ≡ Ok f.input.face → HasReadOver tables font kept
+    → f ≡ new_font f.input → f.input.tables ≡ t → font_in font ≡ Ok f.input.face → HasReadOver tables font kept
 font_was_read_over tables t font f kept there same new shared read = record { input = f.input; tables = there ∙ ap Some (sym shared); read = read; new = same ∙ ap Some new }
 
 pub library_tables_were_read : (t : TextTables) (kept : Option TextTables) → kept ≡ Some t → AreLibraryTables (Ok (tables_value t)) → HasLibraryTables kept
 library_tables_were_read t kept same read = record { tables = t; read = read; same = same }
 
 pub file_was_read_over : (tables : Option TextTables) (t : TextTables) (parts : FontParts) (bytes : List ℕ) (index : ℕ) (f : KeptFont) (kept : Option KeptFont) → tables ≡ Some t → kept ≡ Some f
-    → f ≡ new_font (spacing_in bytes index) f.input → f.input.tables ≡ t → font_of parts bytes index ≡ Ok f.input.face → HasReadFileOver tables parts bytes index kept
+    → f ≡ file_font bytes index f.input → f.input.tables ≡ t → font_of parts bytes index ≡ Ok f.input.face → HasReadFileOver tables parts bytes index kept
 file_was_read_over tables t parts bytes index f kept there same new shared read =
     record { input = f.input; tables = there ∙ ap Some (sym shared); read = read; new = same ∙ ap Some new }
 
-pub file_was_read : (parts : FontParts) (bytes : List ℕ) (index : ℕ) (f : KeptFont) (kept : Option KeptFont) → kept ≡ Some f → f ≡ new_font (spacing_in bytes index) f.input
+pub file_was_read : (parts : FontParts) (bytes : List ℕ) (index : ℕ) (f : KeptFont) (kept : Option KeptFont) → kept ≡ Some f → f ≡ file_font bytes index f.input
     → AreLibraryTables (Ok (tables_value f.input.tables)) → font_of parts bytes index ≡ Ok f.input.face → HasReadFile parts bytes index kept
 file_was_read parts bytes index f kept same new tables read = record { input = f.input; tables = tables; read = read; new = same ∙ ap Some new }
 
-pub font_was_read : (tables font : List ℕ) (f : KeptFont) (kept : Option KeptFont) → kept ≡ Some f → f ≡ new_font None f.input → IsInput tables font (Ok (input_value f.input)) → HasRead tables font kept
+pub font_was_read : (tables font : List ℕ) (f : KeptFont) (kept : Option KeptFont) → kept ≡ Some f → f ≡ new_font f.input → IsInput tables font (Ok (input_value f.input)) → HasRead tables font kept
 font_was_read tables font f kept same new read = record { input = f.input; read = read; new = same ∙ ap Some new }
 
 -- ---- where there is no font, nothing is written

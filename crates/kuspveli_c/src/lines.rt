@@ -3,7 +3,7 @@
 ghost use Rattle.std.specs.Prelude.{◌≡◌, ◌≢◌};
 ghost use Rattle.c_lines.specs.Carets.{AreCaretsOf, IsCaretsFault};
 ghost use Rattle.c_lines.specs.Lines.{AreLinesOf, IsLinesFault};
-ghost use Rattle.c_text.specs.Fonts.{glyphs_of, segment_in};
+ghost use Rattle.c_text.specs.Fonts.{glyphs_of, ligatures_of, segment_in};
 
 use c_lines::carets::write_carets;
 use c_lines::lines::{Cutting, write_lines};
@@ -63,8 +63,8 @@ pub extern "C" fn kus_get_carets(
     count: &mut usize,
 ) -> u32
     ensures same { font.new.value ≡ font.old.value }
-    ensures carets { result ≡ 0 → AreCaretsOf (segment_in font.old.value).direction (glyphs_of font.old.value) end stops.now
-        carets.old carets.new count.new }
+    ensures carets { result ≡ 0 → AreCaretsOf (segment_in font.old.value).direction (ligatures_of font.old.value)
+        (glyphs_of font.old.value) end stops.now carets.old carets.new count.new }
     ensures refused { result ≢ 0 → result ≢ 1 → IsCaretsFault font.old.value end stops.now result }
     ensures none { result ≢ 0 → (count.new ≡ 0) × (carets.new ≡ carets.old) }
 {

@@ -7,13 +7,13 @@ ghost use Rattle.std.specs.Option.{option_map};
 ghost use Rattle.c_text.specs.Numbers.{direction_number, script_number};
 ghost use Rattle.c_text.specs.Written.{extents_of, with_front};
 ghost use Rattle.c_text.specs.Fonts.{glyphs_of, segment_in};
-ghost use Rattle.c_text.specs.Queries.{AreSlicesOf, IsSlicesFault, ascender_in, extents_in, feature_tags_in, glyph_in, h_advance_in, line_metrics_in, name_in, script_tags_in, upem_in, v_advance_in};
+ghost use Rattle.c_text.specs.Queries.{AreSlicesOf, IsSlicesFault, ascender_in, carets_in, extents_in, feature_tags_in, glyph_in, h_advance_in, line_metrics_in, name_in, script_tags_in, upem_in, v_advance_in};
 
 use c_text::handle::Handle;
 use c_text::numbers::{NO_FONT, direction_number, script_number};
 use c_text::queries::{
     glyph_extents, glyph_h_advance, glyph_name, glyph_v_advance, layout_in, line_metrics,
-    nominal_glyph, write_feature_tags, write_script_tags,
+    nominal_glyph, write_feature_tags, write_ligature_carets, write_script_tags,
 };
 use c_text::types::{kus_glyph_extents_t, kus_line_metrics_t, kus_slice_t};
 use c_text::written::write_front;
@@ -230,6 +230,27 @@ pub extern "C" fn kus_font_get_glyph_v_advance(alloc: Global, font: &mut Handle,
     let advance = glyph_v_advance(&shown, glyph);
     font.put(alloc, shown);
     advance
+}
+
+/// The carets of a ligature that the font's file gives (GDEF, the ligature caret list), in font units from the glyph's origin, as
+/// many as there is room for, in the file's order; answers how many there are.
+#[unsafe(no_mangle)]
+pub extern "C" fn kus_font_get_ligature_carets(
+    alloc: Global,
+    font: &mut Handle,
+    glyph: u32,
+    carets: &mut [i32],
+) -> usize
+    ensures same { font.new.value ≡ font.old.value }
+    ensures count { result ≡ length (carets_in font.old.value glyph) }
+    ensures carets { carets.new ≡ with_front (carets_in font.old.value glyph) carets.old }
+{
+    let Some(shown) = font.take(alloc) else {
+        return 0;
+    };
+    let count = write_ligature_carets(&shown, glyph, carets);
+    font.put(alloc, shown);
+    count
 }
 
 /// The tags of the features of a layout table, GSUB or GPOS, as many as there is room for, in the order of their indices;

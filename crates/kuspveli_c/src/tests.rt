@@ -14,8 +14,8 @@ use crate::calls::{
 use crate::queries::{
     kus_font_get_ascender, kus_font_get_feature_tags, kus_font_get_glyph_extents,
     kus_font_get_glyph_h_advance, kus_font_get_glyph_name, kus_font_get_glyph_v_advance,
-    kus_font_get_nominal_glyph, kus_font_get_script_tags, kus_font_get_upem, kus_get_direction,
-    kus_get_script, kus_get_slices, kus_version,
+    kus_font_get_ligature_carets, kus_font_get_nominal_glyph, kus_font_get_script_tags,
+    kus_font_get_upem, kus_get_direction, kus_get_script, kus_get_slices, kus_version,
 };
 use c_text::handle::{Handle, TablesHandle};
 use c_text::types::{
@@ -394,6 +394,7 @@ fn questions_are_answered(alloc: Global, font: &mut Handle) -> Result<bool, Allo
             && kus_font_get_ascender(alloc, font) == 800
             && glyphs_are_named_and_boxed(alloc, font)
             && glyphs_have_advances(alloc, font)
+            && kus_font_get_ligature_carets(alloc, font, 7, &mut [99]) == 0
             && tags_are_listed(alloc, font),
     )
 }

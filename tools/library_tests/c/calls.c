@@ -479,6 +479,9 @@ call_questions (void)
   kus_font_get_glyph_h_advance (font, glyph);
   if (kus_font_get_glyph_v_advance (font, glyph) > 0) fail ("an advance", "upward");
   if (kus_version () >> 16 != KUS_VERSION_MAJOR) fail ("a version", "of another header");
+  int32_t *carets = block (room * sizeof *carets);
+  read_all (carets, less (room, kus_font_get_ligature_carets (font, glyph, carets, room)) * sizeof *carets);
+  free_block (carets, room * sizeof *carets);
   kus_font_get_upem (font);
   kus_font_get_ascender (font);
   call_tags (font);
