@@ -7,6 +7,8 @@ use Rattle.buffer_tags.specs.declared.feature.Feature.{Feature}
 use Rattle.c_text.specs.declared.segment.Segment.{Segment}
 use Rattle.c_text.specs.declared.types.kus_text_t.{kus_text_t}
 use Rattle.c_text.specs.Fonts.{AreGlyphsOf, AreShaped, HasSegmentOf, IsFaultOf, IsFaultOfFile, IsUnshaped, KeptFont, new_font}
+use Rattle.c_text.specs.Replacements.{with_replacements}
+use Rattle.c_text.specs.declared.replacements.ReplacementGlyphs.{ReplacementGlyphs}
 use Rattle.c_text.specs.Texts.{IsTextOf, features_of, text_fault}
 use Rattle.font_file.specs.declared.parts.FontParts.{FontParts}
 use Rattle.shell_fonts.specs.Fonts.{AreLibraryTables, font_of}
@@ -47,24 +49,31 @@ fault_of_file parts bytes index e fault memory = inr (fault memory)
 
 -- ---- texts
 
-pub glyphs_of_text : (input : RunInput) (t : kus_text_t) (features : List Feature) (buffer glyphs : Sides)
-    → features ≡ features_of t → IsTextOf t buffer → AreShaped input features buffer glyphs → AreGlyphsOf input t glyphs
-glyphs_of_text input t features buffer glyphs same is shaped =
-    let P : List Feature → Type 0 = λ fs. AreShaped input fs buffer glyphs in
-    record { buffer = buffer; of_text = is; shaped = subst P same shaped }
+pub glyphs_of_text : (input : RunInput) (r : ReplacementGlyphs) (t : kus_text_t) (features : List Feature) (buffer replaced glyphs : Sides)
+    → features ≡ features_of t → IsTextOf t buffer → replaced ≡ with_replacements r buffer → AreShaped input features replaced glyphs → AreGlyphsOf input r t glyphs
+glyphs_of_text input r t features buffer replaced glyphs same is set shaped =
+    let P : List Feature → Type 0 = λ fs. AreShaped input fs replaced glyphs in
+    let Q : Sides → Type 0 = λ s. AreShaped input (features_of t) s glyphs in
+    record { buffer = buffer; of_text = is; shaped = subst Q set (subst P same shaped) }
 
-pub fault_of_bytes : (input : RunInput) (t : kus_text_t) (e : RunFault) → (e ≢ OutOfMemory → text_fault t ≡ Some e) → e ≢ OutOfMemory → IsFaultOf input t e
-fault_of_bytes input t e fault memory = inl (fault memory)
+pub fault_of_bytes : (input : RunInput) (r : ReplacementGlyphs) (t : kus_text_t) (e : RunFault) → (e ≢ OutOfMemory → text_fault t ≡ Some e) → e ≢ OutOfMemory → IsFaultOf input r t e
+fault_of_bytes input r t e fault memory = inl (fault memory)
 
-pub fault_of_reading : (input : RunInput) (t : kus_text_t) (features : List Feature) (buffer : Sides) (e : RunFault)
-    → features ≡ features_of t → IsTextOf t buffer → (e ≢ OutOfMemory → IsUnshaped input features buffer e) → e ≢ OutOfMemory → IsFaultOf input t e
-fault_of_reading input t features buffer e same is fault memory =
-    let P : List Feature → Type 0 = λ fs. IsUnshaped input fs buffer e in
-    inr (record { buffer = buffer; of_text = is; unshaped = subst P same (fault memory) })
+pub fault_of_reading : (input : RunInput) (r : ReplacementGlyphs) (t : kus_text_t) (features : List Feature) (buffer replaced : Sides) (e : RunFault)
+    → features ≡ features_of t → IsTextOf t buffer → replaced ≡ with_replacements r buffer → (e ≢ OutOfMemory → IsUnshaped input features replaced e) → e ≢ OutOfMemory → IsFaultOf input r t e
+fault_of_reading input r t features buffer replaced e same is set fault memory =
+    let P : List Feature → Type 0 = λ fs. IsUnshaped input fs replaced e in
+    let Q : Sides → Type 0 = λ s. IsUnshaped input (features_of t) s e in
+    inr (record { buffer = buffer; of_text = is; unshaped = subst Q set (subst P same (fault memory)) })
 
--- the direction and the script that a text was shaped by are the text's
-pub segment_of_text : (t : kus_text_t) (buffer shaped : Sides) (segment : Segment) → IsTextOf t buffer
-    → shaped.direction ≡ (after_guess_segment_properties buffer).direction → shaped.script ≡ (after_guess_segment_properties buffer).script
+-- the direction and the script that a text was shaped by are the text's, which replacements leave
+pub segment_of_text : (r : ReplacementGlyphs) (t : kus_text_t) (buffer replaced shaped : Sides) (segment : Segment) → IsTextOf t buffer → replaced ≡ with_replacements r buffer
+    → shaped.direction ≡ (after_guess_segment_properties replaced).direction → shaped.script ≡ (after_guess_segment_properties replaced).script
     → segment.direction ≡ shaped.direction → segment.script ≡ shaped.script → HasSegmentOf t segment
-segment_of_text t buffer shaped segment is direction script same_direction same_script =
-    record { buffer = buffer; of_text = is; direction = same_direction ∙ direction; script = same_script ∙ script }
+segment_of_text r t buffer replaced shaped segment is set direction script same_direction same_script =
+    record {
+      buffer = buffer;
+      of_text = is;
+      direction = same_direction ∙ direction ∙ ap (λ (s : Sides). (after_guess_segment_properties s).direction) set;
+      script = same_script ∙ script ∙ ap (λ (s : Sides). (after_guess_segment_properties s).script) set;
+    }

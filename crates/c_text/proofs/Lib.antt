@@ -10,3 +10,5 @@ pub mod Writing
 mod FeatureTexts
 pub mod Scaling
 mod Advancing
+mod SettingGlyphs
+mod Replacing

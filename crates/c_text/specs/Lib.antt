@@ -4,6 +4,8 @@ pub mod Texts
 pub mod Written
 pub mod Scale
 pub mod Advances
+pub mod CharacterGlyphs
+pub mod Replacements
 pub mod LineSpacing
 pub mod Ownership
 pub mod Plans

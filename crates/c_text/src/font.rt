@@ -1,25 +1,30 @@
 //! A font as handles keep it: what was read, which they share; plans for texts like the last ones; the last text's glyphs.
-ghost use Rattle.std.specs.Prelude.{◌≡◌, ◌≢◌, IfErr, IfOk, Ok, Err, OnErr, OnOk, None, false, length, map};
+ghost use Rattle.std.specs.Prelude.{◌≡◌, ◌≢◌, IfErr, IfOk, Ok, Err, OnErr, OnOk, None, Some, false, length, map};
 ghost use Rattle.buffer_core.specs.Sides.{all_glyphs, empty_buffer};
 ghost use Rattle.c_text.specs.Written.{info_of, with_front};
 ghost use Rattle.shell_fonts.specs.Fonts.{AreLibraryTables, font_of};
 ghost use Rattle.shell_readers.specs.Input.{IsInput, font_in, input_value};
 ghost use Rattle.shell_readers.specs.Tables.{tables_value};
 ghost use Rattle.c_text.specs.Advances.{advances_refusal};
-ghost use Rattle.c_text.specs.Fonts.{AreGlyphsOf, HasSegmentOf, IsFaultOf, IsFaultOfFile, file_font, font_with_advances, new_font, positions_in, without_text};
+ghost use Rattle.c_text.specs.CharacterGlyphs.{glyphs_refusal};
+ghost use Rattle.c_text.specs.Fonts.{AreGlyphsOf, HasSegmentOf, IsFaultOf, IsFaultOfFile, AreSetAtFrontIn, file_font, font_with_advances, font_with_glyphs, font_with_invisible, font_with_not_found, new_font, positions_in, without_text};
 ghost use Rattle.c_text.specs.Plans.{HasPlansOf};
 ghost use Rattle.c_text.specs.Queries.{AreSlicesOf, IsSlicesRefusal};
+ghost use Rattle.c_text.specs.Replacements.{glyph_status};
 
 use crate::input::{Input, Tables};
 use crate::ligatures::Ligatures;
 use crate::line_spacing::{LineSpacing, spacing_in};
+use crate::numbers::{NO_GLYPH, OK};
 use crate::plan::{KEPT_PLANS, shape_kept};
 use crate::queries::write_slices;
+use crate::replacements::{NO_REPLACEMENTS, ReplacementGlyphs, put_replacements};
 use crate::scale::{NO_SCALE, Scale, write_scaled};
 use crate::segment::{NO_SEGMENT, Segment, segment_of};
 use crate::texts::{features_of, put_text};
 use crate::types::{
-    kus_glyph_advance_t, kus_glyph_info_t, kus_glyph_position_t, kus_slice_t, kus_text_t,
+    kus_character_glyph_t, kus_glyph_advance_t, kus_glyph_info_t, kus_glyph_position_t,
+    kus_slice_t, kus_text_t,
 };
 use crate::written::write_front;
 use buffer_core::buffer::hb_buffer_t;
@@ -41,6 +46,7 @@ pub struct Font {
     line: Option<LineSpacing>,
     ligatures: Ligatures,
     scale: Scale,
+    replacements: ReplacementGlyphs,
     // The last text's glyphs, in the buffer in which the next text is shaped.
     buffer: hb_buffer_t,
     segment: Segment,
@@ -54,7 +60,7 @@ impl Model for Font {
     ghost use Rattle.c_text.specs.Plans.{HasPlansOf};
     ghost use Rattle.std.specs.Prelude.{◌≡◌, false};
 
-    ghost view = { λ f. record { input = f.input; line = f.line; ligatures = f.ligatures; scale = f.scale; glyphs = f.buffer; segment = f.segment } };
+    ghost view = { λ f. record { input = f.input; line = f.line; ligatures = f.ligatures; scale = f.scale; replacements = f.replacements; glyphs = f.buffer; segment = f.segment } };
 
     ghost invariant = { λ f. (HasPlansOf f.input f.plans) × (f.buffer.is_open ≡ false) };
 }
@@ -67,9 +73,10 @@ impl Font {
         line: Option<LineSpacing>,
         ligatures: Ligatures,
         scale: Scale,
+        replacements: ReplacementGlyphs,
     ) -> Result<Box<Font>, AllocError>
-        ensures { IfOk result
-            (λ f. f.value ≡ record (new_font input) { line = line; ligatures = ligatures; scale = scale }) }
+        ensures { IfOk result (λ f. f.value
+            ≡ record (new_font input) { line = line; ligatures = ligatures; scale = scale; replacements = replacements }) }
     {
         let font = Font {
             input,
@@ -77,6 +84,7 @@ impl Font {
             line,
             ligatures,
             scale,
+            replacements,
             buffer: hb_buffer_t::new(alloc),
             segment: NO_SEGMENT,
         };
@@ -89,7 +97,7 @@ impl Font {
         ensures { IfOk result (λ f. f.value ≡ new_font input) }
     {
         match Ligatures::none(alloc) {
-            Ok(ligatures) => Font::new(alloc, input, None, ligatures, NO_SCALE),
+            Ok(ligatures) => Font::new(alloc, input, None, ligatures, NO_SCALE, NO_REPLACEMENTS),
             Err(error) => {
                 drop(input);
                 Err(error)
@@ -108,7 +116,14 @@ impl Font {
     {
         match Ligatures::read(alloc, bytes, index) {
             Ok(ligatures) => {
-                Font::new(alloc, input, spacing_in(bytes, index), ligatures, NO_SCALE)
+                Font::new(
+                    alloc,
+                    input,
+                    spacing_in(bytes, index),
+                    ligatures,
+                    NO_SCALE,
+                    NO_REPLACEMENTS,
+                )
             }
             Err(error) => {
                 drop(input);
@@ -181,13 +196,20 @@ impl Font {
         Ok(made)
     }
 
-    /// The same font for another handle, which shares what was read, in the same scale.
+    /// The same font for another handle, which shares what was read, in the same scale and with the same replacements.
     pub fn another(&self, alloc: Global) -> Result<Box<Font>, AllocError>
         ensures { IfOk result (λ f. f.value ≡ without_text self.now) }
     {
         let ligatures = self.ligatures.another()?;
         match self.input.another() {
-            Ok(input) => Font::new(alloc, input, self.line, ligatures, self.scale),
+            Ok(input) => Font::new(
+                alloc,
+                input,
+                self.line,
+                ligatures,
+                self.scale,
+                self.replacements,
+            ),
             Err(error) => {
                 drop(ligatures);
                 Err(error)
@@ -204,6 +226,48 @@ impl Font {
         ensures kept { result ≢ 0 → self.new ≡ self.old }
     {
         self.input.set_advances(given)
+    }
+
+    /// Sets glyphs of characters and of variation sequences, in the order of the list; answers a status. For want of memory
+    /// those at the front are set, and where it is any other than `OK` nothing changes. Plans stay: none depends on
+    /// characters.
+    #[tactic(auto, using(crate::proofs::SettingGlyphs::front_set))]
+    pub fn set_glyphs(&mut self, alloc: Global, given: &[kus_character_glyph_t]) -> u32
+        ensures set { result ≡ 0 → (glyphs_refusal given.now ≡ 0) × (self.new ≡ font_with_glyphs given.now self.old) }
+        ensures refused { result ≢ 0 → result ≢ 1 → result ≢ 26 → result ≡ glyphs_refusal given.now }
+        ensures shared { result ≡ 26 → glyphs_refusal given.now ≡ 0 }
+        ensures memory { result ≡ 1 → (glyphs_refusal given.now ≡ 0)
+            × AreSetAtFrontIn given.now self.old (Some self.new) }
+        ensures kept { result ≢ 0 → result ≢ 1 → self.new ≡ self.old }
+    {
+        self.input.set_glyphs(alloc, given)
+    }
+
+    /// Sets the glyph of default ignorables, 0 for the font's space, in the texts that are shaped from then on; answers a
+    /// status, and changes nothing where it isn't `OK`.
+    pub fn set_invisible_glyph(&mut self, glyph: u32) -> u32
+        ensures status { result ≡ glyph_status glyph }
+        ensures set { result ≡ 0 → self.new ≡ font_with_invisible glyph self.old }
+        ensures kept { result ≢ 0 → self.new ≡ self.old }
+    {
+        let Ok(glyph) = u16::try_from(glyph) else {
+            return NO_GLYPH;
+        };
+        self.replacements.invisible = glyph;
+        OK
+    }
+
+    /// The same of characters that the font lacks; 0 is theirs at first.
+    pub fn set_not_found_glyph(&mut self, glyph: u32) -> u32
+        ensures status { result ≡ glyph_status glyph }
+        ensures set { result ≡ 0 → self.new ≡ font_with_not_found glyph self.old }
+        ensures kept { result ≢ 0 → self.new ≡ self.old }
+    {
+        let Ok(glyph) = u16::try_from(glyph) else {
+            return NO_GLYPH;
+        };
+        self.replacements.not_found = glyph;
+        OK
     }
 
     /// Sets the scale in which positions are handed out.
@@ -280,13 +344,22 @@ impl Font {
     /// Shapes a text, whose glyphs are then the last ones; on a fault there are none.
     pub fn shape(&mut self, alloc: Global, text: &kus_text_t<'_>) -> Result<(), RunFault>
         ensures rest { without_text self.new ≡ without_text self.old }
-        ensures ok { OnOk result (AreGlyphsOf self.old.input text.now self.new.glyphs) }
+        ensures ok { OnOk result (AreGlyphsOf self.new.input self.new.replacements text.now self.new.glyphs) }
         ensures segment { OnOk result (HasSegmentOf text.now self.new.segment) }
         ensures none { OnErr result (self.new ≡ without_text self.old) }
-        ensures refused { IfErr result (λ e. e ≢ RunFault.OutOfMemory → IsFaultOf self.old.input text.now e) }
+        ensures refused { IfErr result
+            (λ e. e ≢ RunFault.OutOfMemory → IsFaultOf self.old.input self.old.replacements text.now e) }
     {
         self.segment = NO_SEGMENT;
-        self.segment = shape_into(alloc, &self.input, &mut self.plans, &mut self.buffer, text)?;
+        let by = self.replacements;
+        self.segment = shape_into(
+            alloc,
+            &self.input,
+            &mut self.plans,
+            by,
+            &mut self.buffer,
+            text,
+        )?;
         Ok(())
     }
 
@@ -324,19 +397,20 @@ fn shape_into(
     alloc: Global,
     input: &Input,
     plans: &mut PlanCache,
+    replacements: ReplacementGlyphs,
     buffer: &mut hb_buffer_t,
     text: &kus_text_t<'_>,
 ) -> Result<Segment, RunFault>
     requires { HasPlansOf input.now plans.old }
     ensures plans { HasPlansOf input.now plans.new }
-    ensures ok { OnOk result (AreGlyphsOf input.now text.now buffer.new) }
+    ensures ok { OnOk result (AreGlyphsOf input.now replacements text.now buffer.new) }
     ensures segment { IfOk result (HasSegmentOf text.now) }
     ensures none { OnErr result (buffer.new ≡ empty_buffer) }
-    ensures refused { IfErr result (λ e. e ≢ RunFault.OutOfMemory → IsFaultOf input.now text.now e) }
+    ensures refused { IfErr result (λ e. e ≢ RunFault.OutOfMemory → IsFaultOf input.now replacements text.now e) }
     ensures closed { buffer.new.is_open ≡ false }
 {
     buffer.clear();
-    match shape_text(alloc, input, plans, text, buffer) {
+    match shape_text(alloc, input, plans, replacements, text, buffer) {
         Ok(segment) => Ok(segment),
         Err(fault) => {
             buffer.clear();
@@ -351,19 +425,21 @@ fn shape_text(
     alloc: Global,
     input: &Input,
     plans: &mut PlanCache,
+    replacements: ReplacementGlyphs,
     text: &kus_text_t<'_>,
     buffer: &mut hb_buffer_t,
 ) -> Result<Segment, RunFault>
     requires plans { HasPlansOf input.now plans.old }
     requires empty { buffer.old ≡ empty_buffer }
     ensures plans { HasPlansOf input.now plans.new }
-    ensures ok { OnOk result (AreGlyphsOf input.now text.now buffer.new) }
+    ensures ok { OnOk result (AreGlyphsOf input.now replacements text.now buffer.new) }
     ensures segment { IfOk result (HasSegmentOf text.now) }
-    ensures refused { IfErr result (λ e. e ≢ RunFault.OutOfMemory → IsFaultOf input.now text.now e) }
+    ensures refused { IfErr result (λ e. e ≢ RunFault.OutOfMemory → IsFaultOf input.now replacements text.now e) }
     ensures closed { OnOk result (buffer.new.is_open ≡ false) }
 {
     let features = features_of(alloc, text)?;
     put_text(alloc, text, buffer)?;
+    put_replacements(replacements, buffer);
     shape_kept(alloc, input, plans, &features, buffer)?;
     Ok(segment_of(buffer))
 }

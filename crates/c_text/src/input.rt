@@ -4,10 +4,12 @@ ghost use Rattle.shell_fonts.specs.Fonts.{AreLibraryTables, font_of};
 ghost use Rattle.shell_readers.specs.Input.{font_in};
 ghost use Rattle.shell_readers.specs.Tables.{AreLawfulTables, tables_value};
 ghost use Rattle.c_text.specs.Advances.{advances_refusal, with_advances};
+ghost use Rattle.c_text.specs.CharacterGlyphs.{AreSetAtFront, glyphs_refusal, with_glyphs};
 
 use crate::advances::{advances_refusal, set_own_advances};
-use crate::numbers::{OK, SHARED_FONT};
-use crate::types::kus_glyph_advance_t;
+use crate::character_glyphs::{glyphs_refusal, set_own_glyphs};
+use crate::numbers::{OK, OUT_OF_MEMORY, SHARED_FONT};
+use crate::types::{kus_character_glyph_t, kus_glyph_advance_t};
 use buffer_tags::language_table::LanguageTable;
 use font_file::FontParts;
 use layout_face::Face;
@@ -142,6 +144,28 @@ impl Input {
             return SHARED_FONT;
         }
         OK
+    }
+
+    /// Sets glyphs of characters and of variation sequences, in the order of the list; answers a status. For want of memory
+    /// those at the front are set, and where it is any other than `OK` nothing changes.
+    pub fn set_glyphs(&mut self, alloc: Global, given: &[kus_character_glyph_t]) -> u32
+        ensures set { result ≡ 0 → (glyphs_refusal given.now ≡ 0)
+            × (self.new ≡ record self.old { face = with_glyphs given.now self.old.face }) }
+        ensures refused { result ≢ 0 → result ≢ 1 → result ≢ 26 → result ≡ glyphs_refusal given.now }
+        ensures shared { result ≡ 26 → glyphs_refusal given.now ≡ 0 }
+        ensures memory { result ≡ 1 → (glyphs_refusal given.now ≡ 0) × AreSetAtFront given.now self.old.face self.new.face }
+        ensures tables { self.new ≡ record self.old { face = self.new.face } }
+        ensures kept { result ≢ 0 → result ≢ 1 → self.new ≡ self.old }
+    {
+        let refusal = glyphs_refusal(given);
+        if refusal != OK {
+            return refusal;
+        }
+        match set_own_glyphs(alloc, &mut self.face, given) {
+            Ok(true) => OK,
+            Ok(false) => SHARED_FONT,
+            Err(_) => OUT_OF_MEMORY,
+        }
     }
 
     /// The tables by which texts are shaped.

@@ -3,6 +3,7 @@
 #![tactic(auto)]
 
 pub mod advances;
+mod character_glyphs;
 pub mod font;
 pub mod formats;
 pub mod handle;
@@ -13,6 +14,7 @@ pub mod numbers;
 mod plan;
 pub mod pointer;
 pub mod queries;
+pub mod replacements;
 pub mod requests;
 pub mod scale;
 pub mod segment;

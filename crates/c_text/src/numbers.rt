@@ -37,11 +37,17 @@ pub const OTHER_FORMAT: u32 = 19;
 /// The status where what a font was read to is shared with other handles, and so can't be changed.
 pub const SHARED_FONT: u32 = 26;
 
-/// The status where a font has no advance of a glyph that is given one.
+/// The status where a font has no advance of a glyph that is given one, and of a number that no glyph has.
 pub const NO_GLYPH: u32 = 27;
 
 /// The status where an advance is more than 65535.
 pub const ADVANCE_RANGE: u32 = 28;
+
+/// The status where a number that is given a glyph is no character.
+pub const NO_CHARACTER: u32 = 29;
+
+/// The number that stands for no glyph (`HB_CODEPOINT_INVALID`).
+pub const CODEPOINT_INVALID: u32 = 0xFFFF_FFFF;
 
 /// The bits of a text's flags that name an encoding. HarfBuzz's buffer flags have none of them.
 pub const UTF16: u32 = 0x1_0000;

@@ -49,6 +49,16 @@ pub struct kus_glyph_advance_t {
     pub advance: u32,
 }
 
+/// The glyph that a client gives a character, or with a selector, which is not 0, a variation sequence; `CODEPOINT_INVALID`
+/// for none.
+#[repr(C)]
+#[derive(Clone, Copy)]
+pub struct kus_character_glyph_t {
+    pub character: u32,
+    pub selector: u32,
+    pub glyph: u32,
+}
+
 /// The position of a glyph, in font units or in the scale that is set (`hb_glyph_position_t`).
 #[repr(C)]
 #[derive(Clone, Copy)]

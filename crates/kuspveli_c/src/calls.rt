@@ -232,8 +232,8 @@ pub extern "C" fn kus_count_fonts(bytes: &[u8]) -> usize
     }
 }
 
-/// Another handle of a font, which shares what was read, in the same scale; a font that the other handle had is dropped. On
-/// a fault both handles stay as they were.
+/// Another handle of a font, which shares what was read, in the same scale and with the same replacements; a font that the
+/// other handle had is dropped. On a fault both handles stay as they were.
 #[unsafe(no_mangle)]
 pub extern "C" fn kus_font_reference(alloc: Global, font: &mut Handle, other: &mut Handle) -> u32
     ensures no_font { IfNone font.old.value (result ≡ 16) }
@@ -276,10 +276,10 @@ pub extern "C" fn kus_shape(
     count: &mut usize,
 ) -> u32
     ensures no_font { IfNone font.old.value (result ≡ 16) }
-    ensures shaped { result ≡ 0 → IfSome font.new.value (λ f. AreGlyphsOf f.input text.now f.glyphs) }
+    ensures shaped { result ≡ 0 → IfSome font.new.value (λ f. AreGlyphsOf f.input f.replacements text.now f.glyphs) }
     ensures segment { result ≡ 0 → HasSegmentOf text.now (segment_in font.new.value) }
     ensures refused { result ≢ 0 → result ≢ 1
-        → IfSome font.old.value (λ f. IsNumberOf (IsFaultOf f.input text.now) result) }
+        → IfSome font.old.value (λ f. IsNumberOf (IsFaultOf f.input f.replacements text.now) result) }
     ensures none { result ≢ 0 → glyphs_of font.new.value ≡ empty_buffer }
     ensures rest { textless font.new.value ≡ textless font.old.value }
     ensures count { count.new ≡ length (all_glyphs (glyphs_of font.new.value)) }
