@@ -88,10 +88,12 @@ enum {
   KUS_FONT_INDEX = 23,
   KUS_FONT_MISSING = 24,
   KUS_FONT_TOO_LARGE = 25,
-  /* of advances: other handles share the font; the font has no advance of a glyph; an advance is above 65535 */
+  /* of what a client sets: other handles share the font; the font has no advance of a glyph, or no glyph has the number; an
+   * advance is above 65535; a number is no character */
   KUS_SHARED_FONT = 26,
   KUS_NO_GLYPH = 27,
-  KUS_ADVANCE_RANGE = 28
+  KUS_ADVANCE_RANGE = 28,
+  KUS_NO_CHARACTER = 29
 };
 
 /* What of a font file is not read. Without the boxes of glyphs no glyph has one, also where marks are placed by boxes,
@@ -192,6 +194,15 @@ typedef struct {
   uint32_t glyph, advance;
 } kus_glyph_advance_t;
 
+/* HB_CODEPOINT_INVALID: no glyph */
+#define KUS_CODEPOINT_INVALID ((uint32_t) -1)
+
+/* The glyph that a client gives a character, or where the selector is not 0 a variation sequence of both;
+ * KUS_CODEPOINT_INVALID where the font is to have none. */
+typedef struct {
+  uint32_t character, selector, glyph;
+} kus_character_glyph_t;
+
 /* hb_glyph_position_t, in font units or in the scale that is set */
 typedef struct {
   int32_t x_advance, y_advance, x_offset, y_offset;
@@ -273,8 +284,8 @@ kus_font_create_from_bytes (kus_font_t *font, kus_tables_t *tables, const uint8_
 size_t kus_describe_fault (const uint8_t *bytes, size_t length, size_t index, uint32_t flags, uint8_t *text,
                            size_t text_room);
 
-/* Makes `other` another handle of the font, which shares what was read, in the same scale; a font that `other` had is
- * dropped. On a fault both stay as they were. */
+/* Makes `other` another handle of the font, which shares what was read, in the same scale and with the same glyphs for
+ * what is invisible or not found; a font that `other` had is dropped. On a fault both stay as they were. */
 kus_status_t kus_font_reference (kus_font_t *font, kus_font_t *other);
 
 /* Leaves KUS_FONT_INIT. What was read is freed with its last handle. */
@@ -304,6 +315,21 @@ kus_status_t kus_font_set_advances (kus_font_t *font, const kus_glyph_advance_t 
  * them were rounded to. What doesn't fit 32 bits is the nearest number that does. 0 on both axes: font units, as at first.
  * What a font says of itself stays in font units. */
 kus_status_t kus_font_set_scale (kus_font_t *font, int32_t x_scale, int32_t y_scale);
+
+/* Gives characters and variation sequences glyphs, as a client's own character map has them
+ * (hb_font_funcs_set_nominal_glyph_func, hb_font_funcs_set_variation_glyph_func): from then on texts are shaped as in a font
+ * with this map. Of one that is named twice the last glyph counts. The first one that can't be set refuses the list:
+ * KUS_NO_CHARACTER where the character or the selector is no scalar value, KUS_NO_GLYPH where the glyph is above 65535. Where
+ * other handles share the font, it is KUS_SHARED_FONT. Then nothing changes. On KUS_OUT_OF_MEMORY glyphs at the front of the
+ * list are set, and the same list may be given again. A character that is added moves those after it, so many are given
+ * in one call. The glyphs of the last text stay as they are, and plans are kept. */
+kus_status_t kus_font_set_glyphs (kus_font_t *font, const kus_character_glyph_t *glyphs, size_t count);
+
+/* Sets the glyph of default ignorables in texts that are shaped from then on, 0 for the font's space, as at first
+ * (hb_buffer_set_invisible_glyph), and that of characters that the font lacks, 0 at first (hb_buffer_set_not_found_glyph). They
+ * answer KUS_NO_GLYPH for a number above 65535, and then nothing changes. */
+kus_status_t kus_font_set_invisible_glyph (kus_font_t *font, uint32_t glyph);
+kus_status_t kus_font_set_not_found_glyph (kus_font_t *font, uint32_t glyph);
 
 /* The direction and the script by which the last text of this handle was shaped, set or guessed; 0 where there is
  * none. */
@@ -525,7 +551,7 @@ kus_status_name (kus_status_t status)
     "U1 OutOfOrder", "U2 OutOfRange", "U3 SplitDepth", "Unlawful",      "NotUtf8",         "?",
     "S2 TooLong",  "S3 StretchRange", "S4 UnknownSyllableKind", "?", "NoFont",
     "NoTables", "NoSlices", "OtherFormat", "F1 Short", "F2 Kind", "F3 Order", "F4 Index", "F5 Missing", "F6 TooLarge",
-    "SharedFont", "NoGlyph", "AdvanceRange"
+    "SharedFont", "NoGlyph", "AdvanceRange", "NoCharacter"
   };
   static const char *const of_lines[] = { "TooManyGlyphs", "ClustersOutOfOrder", "InvalidBreaks", "InvalidStops" };
   if (30 <= status && status < 34)

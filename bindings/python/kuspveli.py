@@ -19,13 +19,15 @@ NAMES = {
     6: "U1 OutOfOrder", 7: "U2 OutOfRange", 8: "U3 SplitDepth", 9: "Unlawful", 10: "NotUtf8", 12: "S2 TooLong",
     13: "S3 StretchRange", 14: "S4 UnknownSyllableKind", 16: "NoFont", 17: "NoTables", 18: "NoSlices",
     19: "OtherFormat", 20: "F1 Short", 21: "F2 Kind", 22: "F3 Order", 23: "F4 Index", 24: "F5 Missing",
-    25: "F6 TooLarge", 26: "SharedFont", 27: "NoGlyph", 28: "AdvanceRange", 30: "TooManyGlyphs",
-    31: "ClustersOutOfOrder", 32: "InvalidBreaks", 33: "InvalidStops",
+    25: "F6 TooLarge", 26: "SharedFont", 27: "NoGlyph", 28: "AdvanceRange", 29: "NoCharacter",
+    30: "TooManyGlyphs", 31: "ClustersOutOfOrder", 32: "InvalidBreaks", 33: "InvalidStops",
 }
 DIRECTIONS = {"": 0, "ltr": 4, "rtl": 5, "ttb": 6, "btt": 7}
 GLOBAL_END = 0xFFFF_FFFF
 # The greatest index.
 SIZE_MOST = 0xFFFF_FFFF_FFFF_FFFF
+# No glyph (KUS_CODEPOINT_INVALID).
+NO_GLYPH = 0xFFFF_FFFF
 # What of a font file is not read (KUS_FONT_WITHOUT_EXTENTS, KUS_FONT_WITHOUT_NAMES).
 WITHOUT_EXTENTS, WITHOUT_NAMES = 1, 2
 # How a text is passed, by what its clusters are: the name of the encoding in the machine's order, and its flag
@@ -90,6 +92,10 @@ class RawAdvance(ctypes.Structure):
     _fields_ = [(name, ctypes.c_uint32) for name in ("glyph", "advance")]
 
 
+class RawCharacterGlyph(ctypes.Structure):
+    _fields_ = [(name, ctypes.c_uint32) for name in ("character", "selector", "glyph")]
+
+
 class RawLineMetrics(ctypes.Structure):
     _fields_ = [(name, ctypes.c_int32) for name in ("ascender", "descender", "line_gap")]
 
@@ -135,6 +141,9 @@ def load(path: Union[str, "os.PathLike[str]"]) -> ctypes.CDLL:
     declare(found, "kus_shape", u32, handle, ctypes.POINTER(RawText), *rooms, ctypes.POINTER(size))
     declare(found, "kus_get_glyphs", size, handle, *rooms)
     declare(found, "kus_font_set_advances", u32, handle, ctypes.POINTER(RawAdvance), size)
+    declare(found, "kus_font_set_glyphs", u32, handle, ctypes.POINTER(RawCharacterGlyph), size)
+    declare(found, "kus_font_set_invisible_glyph", u32, handle, u32)
+    declare(found, "kus_font_set_not_found_glyph", u32, handle, u32)
     declare(found, "kus_font_set_scale", u32, handle, ctypes.c_int32, ctypes.c_int32)
     declare(found, "kus_get_direction", u32, handle)
     declare(found, "kus_get_script", u32, handle)
@@ -834,6 +843,26 @@ class Font(Held):
         with self._lock:
             self._advance, self._asked = advance, set()
 
+    def set_glyphs(self, glyphs: Mapping[str, Optional[int]]) -> None:
+        """Gives characters glyphs, and variation sequences (a character and its selector), as a client's own character map
+        has them; None where the font is to have no glyph. From then on texts are shaped as in a font with this map. Where a
+        glyph is refused, with the Fault NoGlyph for one above 65535, or SharedFont where other handles share the font,
+        nothing changes."""
+        given = [raw_character_glyph(sequence, glyph) for sequence, glyph in glyphs.items()]
+        rows = (RawCharacterGlyph * max(len(given), 1))(*given)
+        with self._lock:
+            check(LIBRARY.kus_font_set_glyphs(self._handle, rows, len(given)))
+
+    def set_invisible_glyph(self, glyph: Optional[int]) -> None:
+        """Sets the glyph of default ignorables in the texts that are shaped from then on; None for the font's space."""
+        with self._lock:
+            check(LIBRARY.kus_font_set_invisible_glyph(self._handle, number(0 if glyph is None else glyph, "glyph")))
+
+    def set_not_found_glyph(self, glyph: int) -> None:
+        """Sets the glyph of characters that the font lacks, 0 at first, in the texts that are shaped from then on."""
+        with self._lock:
+            check(LIBRARY.kus_font_set_not_found_glyph(self._handle, number(glyph, "glyph")))
+
     def set_scale(self, x_scale: int, y_scale: Optional[int] = None) -> None:
         """Sets what an em is on both axes in units of the caller, in which positions are answered from then on: an advance
         is rounded by itself, and within a cluster each glyph's point is rounded once. 0 for font units."""
@@ -952,6 +981,16 @@ class Font(Held):
             tags = (ctypes.c_uint32 * max(room, 1))()
             call(self._handle, tag(table), tags, room)
         return list(map(tag_text, tags[:room]))
+
+
+def raw_character_glyph(sequence: str, glyph: Optional[int]) -> RawCharacterGlyph:
+    """The glyph of a character, or of a character and its selector."""
+    if not isinstance(sequence, str):
+        raise TypeError(f"characters: {sequence!r} is no str")
+    if len(sequence) not in (1, 2):
+        raise ValueError(f"characters: {sequence!r} is no character, nor one with a variation selector")
+    selector = ord(sequence[1]) if len(sequence) == 2 else 0
+    return RawCharacterGlyph(ord(sequence[0]), selector, NO_GLYPH if glyph is None else number(glyph, "glyph", NO_GLYPH - 1))
 
 
 def sizes_of(indices: list[int], what: str) -> tuple[Any, int]:

@@ -36,10 +36,12 @@ pub enum Fault {
     FontTooLarge,
     /// Other handles share the font that was to be changed.
     SharedFont,
-    /// The font has no advance of a glyph that was given one.
+    /// The font has no advance of a glyph that was given one, or no glyph has the number.
     NoGlyph,
     /// An advance is above 65535.
     AdvanceRange,
+    /// A number that was given a glyph is no character.
+    NoCharacter,
     /// The last text has 2^31 glyphs or more.
     TooManyGlyphs,
     /// The clusters of the last text's glyphs aren't in order.
@@ -79,6 +81,7 @@ impl Fault {
             26 => Fault::SharedFont,
             27 => Fault::NoGlyph,
             28 => Fault::AdvanceRange,
+            29 => Fault::NoCharacter,
             30 => Fault::TooManyGlyphs,
             31 => Fault::ClustersOutOfOrder,
             32 => Fault::InvalidBreaks,
@@ -122,6 +125,7 @@ impl fmt::Display for Fault {
             Fault::SharedFont => "SharedFont",
             Fault::NoGlyph => "NoGlyph",
             Fault::AdvanceRange => "AdvanceRange",
+            Fault::NoCharacter => "NoCharacter",
             Fault::TooManyGlyphs => "TooManyGlyphs",
             Fault::ClustersOutOfOrder => "ClustersOutOfOrder",
             Fault::InvalidBreaks => "InvalidBreaks",

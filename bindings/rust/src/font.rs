@@ -148,7 +148,8 @@ impl Font {
         Ok(font)
     }
 
-    /// The same font for another thread, in the same scale. Both share what was read.
+    /// The same font for another thread, in the same scale and with the same glyphs for what is invisible or not found. Both
+    /// share what was read.
     pub fn another(&self) -> Result<Font, Fault> {
         let mut font = Font::empty();
         Fault::check(self.handle.with(|shared| unsafe { kus_font_reference(shared, font.handle.own()) }))?;
@@ -268,6 +269,36 @@ impl Font {
     pub fn set_advances(&mut self, advances: &[(u32, u32)]) -> Result<(), Fault> {
         let given: Vec<_> = advances.iter().map(|&(glyph, advance)| GlyphAdvance { glyph, advance }).collect();
         Fault::check(unsafe { kus_font_set_advances(self.handle.own(), given.as_ptr(), given.len()) })
+    }
+
+    /// Gives characters glyphs, and variation sequences (a character and its selector), as a client's own character map has them;
+    /// `None` where the font is to have no glyph. From then on texts are shaped as in a font with this map; of one that is
+    /// named twice the last glyph counts. Where a glyph is above 65535 (`NoGlyph`), or other handles share the font
+    /// (`SharedFont`), nothing changes; on `OutOfMemory` those at the front are set, and the same ones may be given again.
+    pub fn set_glyphs(&mut self, glyphs: &[(char, Option<char>, Option<u32>)]) -> Result<(), Fault> {
+        let mut given = Vec::with_capacity(glyphs.len());
+        for &(character, selector, glyph) in glyphs {
+            // A number that would say that there is none is no glyph's either.
+            if glyph == Some(NO_GLYPH) {
+                return Err(Fault::NoGlyph);
+            }
+            given.push(CharacterGlyph {
+                character: character.into(),
+                selector: selector.map_or(0, u32::from),
+                glyph: glyph.unwrap_or(NO_GLYPH),
+            });
+        }
+        Fault::check(unsafe { kus_font_set_glyphs(self.handle.own(), given.as_ptr(), given.len()) })
+    }
+
+    /// Sets the glyph of default ignorables in the texts that are shaped from then on; `None` for the font's space.
+    pub fn set_invisible_glyph(&mut self, glyph: Option<u32>) -> Result<(), Fault> {
+        Fault::check(unsafe { kus_font_set_invisible_glyph(self.handle.own(), glyph.unwrap_or(0)) })
+    }
+
+    /// Sets the glyph of characters that the font lacks, 0 at first, in the texts that are shaped from then on.
+    pub fn set_not_found_glyph(&mut self, glyph: u32) -> Result<(), Fault> {
+        Fault::check(unsafe { kus_font_set_not_found_glyph(self.handle.own(), glyph) })
     }
 
     /// Sets what an em is on both axes in units of the caller, in which positions are answered from the next text on: an

@@ -61,6 +61,18 @@ pub(crate) struct GlyphAdvance {
     pub advance: u32,
 }
 
+/// The glyph that a client gives a character, or with a selector, which is not 0, a variation sequence.
+#[repr(C)]
+#[derive(Clone, Copy)]
+pub(crate) struct CharacterGlyph {
+    pub character: u32,
+    pub selector: u32,
+    pub glyph: u32,
+}
+
+/// No glyph (`KUS_CODEPOINT_INVALID`).
+pub(crate) const NO_GLYPH: u32 = u32::MAX;
+
 /// What is above and below the baseline, where the descender is mostly negative, and what is left between two lines, in font
 /// units.
 #[repr(C)]
@@ -205,6 +217,9 @@ extern "C" {
         positions_room: usize,
     ) -> usize;
     pub(crate) fn kus_font_set_advances(font: *mut Handle, advances: *const GlyphAdvance, count: usize) -> u32;
+    pub(crate) fn kus_font_set_glyphs(font: *mut Handle, glyphs: *const CharacterGlyph, count: usize) -> u32;
+    pub(crate) fn kus_font_set_invisible_glyph(font: *mut Handle, glyph: u32) -> u32;
+    pub(crate) fn kus_font_set_not_found_glyph(font: *mut Handle, glyph: u32) -> u32;
     pub(crate) fn kus_font_set_scale(font: *mut Handle, x_scale: i32, y_scale: i32) -> u32;
     pub(crate) fn kus_get_direction(font: *mut Handle) -> u32;
     pub(crate) fn kus_get_script(font: *mut Handle) -> u32;

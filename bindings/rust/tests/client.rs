@@ -45,6 +45,48 @@ fn advances_are_asked_for() -> Result<(), Fault> {
     Ok(())
 }
 
+/// The glyphs of a text.
+fn glyphs(font: &mut Font, text: &str) -> Result<Vec<u32>, Fault> {
+    Ok(font.shape(&Text::new(text))?.infos.iter().map(|info| info.codepoint).collect())
+}
+
+/// a is glyph 1, b 2, f 3, i 4, and f with i the ligature 7.
+#[test]
+fn characters_are_the_clients() -> Result<(), Fault> {
+    let mut font = Font::new(b"{}", FONT)?;
+    for refused in [65536, u32::MAX] {
+        assert_eq!(font.set_glyphs(&[('a', None, Some(2)), ('b', None, Some(refused))]), Err(Fault::NoGlyph));
+    }
+    assert_eq!(glyphs(&mut font, "ab")?, [1, 2]);
+    font.set_glyphs(&[('x', None, Some(3)), ('a', None, None), ('i', None, Some(2)), ('i', None, Some(4))])?;
+    assert_eq!(glyphs(&mut font, "xiba")?, [7, 2, 0]);
+    font.set_glyphs(&[('b', Some('\u{fe00}'), Some(6))])?;
+    assert_eq!(glyphs(&mut font, "b\u{fe00}b")?, [6, 2]);
+    let other = font.another()?;
+    assert_eq!(font.set_glyphs(&[('a', None, Some(1))]), Err(Fault::SharedFont));
+    drop(other);
+    font.set_glyphs(&[])?;
+    font.set_glyphs(&[('a', None, Some(1)), ('b', Some('\u{fe00}'), None)])?;
+    assert_eq!(glyphs(&mut font, "a")?, [1]);
+    Ok(())
+}
+
+/// U+200B is a default ignorable, and the font has no c.
+#[test]
+fn replacements_are_the_clients() -> Result<(), Fault> {
+    let mut font = Font::new(b"{}", FONT)?;
+    assert_eq!(font.set_invisible_glyph(Some(65536)), Err(Fault::NoGlyph));
+    assert_eq!(font.set_not_found_glyph(65536), Err(Fault::NoGlyph));
+    font.set_invisible_glyph(Some(5))?;
+    font.set_not_found_glyph(6)?;
+    assert_eq!(glyphs(&mut font, "a\u{200b}c")?, [1, 5, 6]);
+    assert_eq!(glyphs(&mut font.another()?, "c")?, [6]);
+    font.set_invisible_glyph(None)?;
+    font.set_not_found_glyph(0)?;
+    assert_eq!(glyphs(&mut font, "ac")?, [1, 0]);
+    Ok(())
+}
+
 /// b is 600 units wide, and an em has 1000: (600 * (scale * 65536 / 1000) + 32768) >> 16 (hb_font_t::em_mult).
 #[test]
 fn positions_are_scaled() -> Result<(), Fault> {

@@ -64,7 +64,7 @@ pub extern "C" fn kus_font_set_glyphs(
 /// Sets the glyph that default ignorables have in the texts that are shaped from then on (`hb_buffer_set_invisible_glyph`): 0
 /// for the font's space, without advance. A number that no glyph has is refused.
 #[unsafe(no_mangle)]
-pub extern "C" fn kus_set_invisible_glyph(alloc: Global, font: &mut Handle, glyph: u32) -> u32
+pub extern "C" fn kus_font_set_invisible_glyph(alloc: Global, font: &mut Handle, glyph: u32) -> u32
     ensures no_font { IfNone font.old.value (result ≡ 16) }
     ensures status { IfSome font.old.value (λ _. result ≡ glyph_status glyph) }
     ensures set { result ≡ 0 → IfSome font.old.value (λ f. font.new.value ≡ Some (font_with_invisible glyph f)) }
@@ -81,7 +81,7 @@ pub extern "C" fn kus_set_invisible_glyph(alloc: Global, font: &mut Handle, glyp
 /// Sets the glyph that characters which the font lacks have in the texts that are shaped from then on
 /// (`hb_buffer_set_not_found_glyph`), 0 at first. A number that no glyph has is refused.
 #[unsafe(no_mangle)]
-pub extern "C" fn kus_set_not_found_glyph(alloc: Global, font: &mut Handle, glyph: u32) -> u32
+pub extern "C" fn kus_font_set_not_found_glyph(alloc: Global, font: &mut Handle, glyph: u32) -> u32
     ensures no_font { IfNone font.old.value (result ≡ 16) }
     ensures status { IfSome font.old.value (λ _. result ≡ glyph_status glyph) }
     ensures set { result ≡ 0 → IfSome font.old.value (λ f. font.new.value ≡ Some (font_with_not_found glyph f)) }

@@ -375,14 +375,60 @@ call_advances (void)
   free_block (own, count * sizeof *own);
 }
 
+static uint32_t
+nominal_glyph (kus_font_t *font, uint32_t character)
+{
+  uint32_t glyph;
+  return kus_font_get_nominal_glyph (font, character, &glyph) ? glyph : KUS_CODEPOINT_INVALID;
+}
+
+/* A list that is taken gives each character its last glyph, or none; one that is refused leaves them as they were. */
+static void
+call_glyphs (void)
+{
+  kus_font_t *font = some_font ();
+  size_t count = below (9);
+  kus_character_glyph_t *given = block (count * sizeof *given);
+  uint32_t *own = block (count * sizeof *own);
+  for (size_t i = 0; i < count; i++) {
+    given[i].character = once_in (60) ? (uint32_t) drawn () : once_in (2) ? some_character () : 0x60 + below (8);
+    given[i].selector = once_in (60) ? (uint32_t) drawn () : once_in (3) ? 0xFE00 + below (2) : 0;
+    given[i].glyph = once_in (60) ? (uint32_t) drawn () : once_in (4) ? KUS_CODEPOINT_INVALID : below (40);
+    own[i] = nominal_glyph (font, given[i].character);
+  }
+  kus_status_t status = kus_font_set_glyphs (font, given, count);
+  note (status);
+  for (size_t i = 0; i < count; i++) {
+    uint32_t wanted = own[i];
+    for (size_t j = 0; j < count && status == KUS_OK; j++)
+      if (given[j].character == given[i].character && !given[j].selector) wanted = given[j].glyph;
+    if (nominal_glyph (font, given[i].character) != wanted) fail ("a glyph", "that wasn't given");
+  }
+  free_block (given, count * sizeof *given);
+  free_block (own, count * sizeof *own);
+}
+
+static void
+call_replacements (void)
+{
+  uint32_t glyph = once_in (20) ? (uint32_t) drawn () : below (0x10001);
+  kus_status_t status = once_in (2) ? kus_font_set_invisible_glyph (some_font (), glyph) : kus_font_set_not_found_glyph (some_font (), glyph);
+  note (status);
+  if (status != KUS_NO_FONT && (status == KUS_NO_GLYPH) != (glyph > 0xFFFF)) fail ("a glyph", "that none has");
+}
+
 static void
 call_settings (void)
 {
   kus_line_metrics_t metrics;
   if (kus_font_get_line_metrics (some_font (), &metrics)) read_all (&metrics, sizeof metrics);
-  if (once_in (2)) call_advances ();
-  else
+  switch (below (4)) {
+  case 0: call_advances (); break;
+  case 1: call_glyphs (); break;
+  case 2: call_replacements (); break;
+  default:
     note (kus_font_set_scale (some_font (), once_in (3) ? 0 : (int32_t) drawn (), once_in (3) ? 0 : (int32_t) drawn ()));
+  }
 }
 
 /* A copy of a file, one time in three damaged or cut. */

@@ -1,6 +1,6 @@
 /* settings FONT FILE: what a client sets in a font, beside HarfBuzz: each line of the file is a text. The advances that a
  * client measures, by a list and by a function, give the glyphs and positions that HarfBuzz has for a font with this
- * function; in a scale advances and points are HarfBuzz's, within NEAR units. Prints how many texts and glyphs there were,
+ * function, and so does a client's character map; in a scale advances and points are HarfBuzz's, within NEAR units. Prints how many texts and glyphs there were,
  * and how many points were a unit off and more. */
 #include <hb-ot.h>
 #include <hb.h>
@@ -136,6 +136,70 @@ measure (kus_font_t *font, kus_font_t *plain, kus_measures_t *measures, hb_font_
   hb_buffer_destroy (buffer);
 }
 
+/* ---- characters */
+
+#define FIRST 0x300 /* combining marks */
+#define LAST 0x36F
+#define UNSEEN 4
+#define MISSING 9
+
+/* What the client's map has: capital letters for small ones, and no combining mark. */
+static hb_bool_t
+mapped_for_other (hb_font_t *font, void *data, hb_codepoint_t unicode, hb_codepoint_t *glyph, void *user)
+{
+  (void) data;
+  (void) user;
+  if (FIRST <= unicode && unicode <= LAST) return 0;
+  return hb_font_get_nominal_glyph (hb_font_get_parent (font), 'a' <= unicode && unicode <= 'z' ? unicode - 32 : unicode, glyph);
+}
+
+static hb_font_t *
+with_map (hb_font_t *parent)
+{
+  hb_font_t *font = hb_font_create_sub_font (parent);
+  hb_font_funcs_t *functions = hb_font_funcs_create ();
+  hb_font_funcs_set_nominal_glyph_func (functions, mapped_for_other, NULL, NULL);
+  hb_font_set_funcs (font, functions, NULL, NULL);
+  hb_font_funcs_destroy (functions);
+  return font;
+}
+
+static void
+set_map (kus_font_t *font)
+{
+  kus_character_glyph_t list[26 + LAST - FIRST + 1 + 1];
+  size_t count = 0;
+  for (uint32_t c = 'a'; c <= 'z'; c++) {
+    uint32_t glyph;
+    int has = kus_font_get_nominal_glyph (font, c - 32, &glyph);
+    list[count++] = (kus_character_glyph_t){ c, 0, has ? glyph : KUS_CODEPOINT_INVALID };
+  }
+  for (uint32_t c = FIRST; c <= LAST; c++)
+    list[count++] = (kus_character_glyph_t){ c, 0, KUS_CODEPOINT_INVALID };
+  list[count] = (kus_character_glyph_t){ 0xD800, 0, 1 };
+  expect (kus_font_set_glyphs (font, list, count + 1) == KUS_NO_CHARACTER, "a surrogate", "");
+  list[count] = (kus_character_glyph_t){ 'a', 0, 65536 };
+  expect (kus_font_set_glyphs (font, list, count + 1) == KUS_NO_GLYPH, "no glyph", "");
+  expect (kus_font_set_glyphs (font, list, count) == KUS_OK, "a map", "");
+}
+
+/* A text with the client's glyphs for default ignorables and for what the font lacks. */
+static void
+replace (kus_font_t *own, hb_font_t *other, const char *text)
+{
+  expect (kus_font_set_invisible_glyph (own, UNSEEN) == KUS_OK && kus_font_set_not_found_glyph (own, MISSING) == KUS_OK, "replacements", "");
+  size_t count = shape_own (own, text);
+  expect (kus_font_set_invisible_glyph (own, 0) == KUS_OK && kus_font_set_not_found_glyph (own, 0) == KUS_OK, "no replacements", "");
+  hb_buffer_t *buffer = hb_buffer_create ();
+  hb_buffer_add_utf8 (buffer, text, -1, 0, -1);
+  hb_buffer_guess_segment_properties (buffer);
+  hb_buffer_set_invisible_glyph (buffer, UNSEEN);
+  hb_buffer_set_not_found_glyph (buffer, MISSING);
+  hb_shape_full (other, buffer, NULL, 0, shapers);
+  expect (has_glyphs (buffer, count) && has_positions (buffer, count), "replacements", text);
+  hb_buffer_destroy (buffer);
+}
+
 /* ---- scale */
 
 typedef struct {
@@ -194,6 +258,8 @@ main (int argc, char **arguments)
   hb_blob_t *blob = hb_blob_create_from_file (arguments[1]);
   hb_face_t *face = hb_face_create (blob, 0);
   hb_font_t *plain = hb_font_create (face), *with = with_function (plain), *scaled = hb_font_create (face);
+  hb_font_t *other_mapped = with_map (plain);
+  kus_font_t mapped = open_font (OWN_TABLES, arguments[1]);
   kus_font_t own = open_font (OWN_TABLES, arguments[1]), listed = open_font (OWN_TABLES, arguments[1]);
   kus_font_t asked = open_font (OWN_TABLES, arguments[1]), other = KUS_FONT_INIT;
   kus_measures_t *measures = calloc (1, sizeof *measures);
@@ -203,8 +269,10 @@ main (int argc, char **arguments)
   size_t texts = 0, skipped = 0, glyphs = 0;
   try_lines (&own, plain);
   set_all (&listed, hb_face_get_glyph_count (face));
+  set_map (&mapped);
   expect (kus_font_reference (&listed, &other) == KUS_OK, "a reference", "");
   expect (kus_font_set_advances (&listed, &(kus_glyph_advance_t){ 1, 1 }, 1) == KUS_SHARED_FONT, "a shared font", "");
+  expect (kus_font_set_glyphs (&listed, &(kus_character_glyph_t){ 'a', 0, 1 }, 1) == KUS_SHARED_FONT, "a shared font", "");
   kus_font_destroy (&other);
   for (char *text = strtok ((char *) file.bytes, "\n"); text; text = strtok (NULL, "\n")) {
     if (!are_alike (&own, plain, text)) {
@@ -215,6 +283,8 @@ main (int argc, char **arguments)
     glyphs += shape_own (&own, text);
     expect (are_alike (&listed, with, text), "a list of advances", text);
     measure (&asked, &own, measures, with, text);
+    expect (are_alike (&mapped, other_mapped, text), "a map", text);
+    replace (&own, plain, text);
     for (size_t k = 0; k < sizeof scales / sizeof *scales; k++) {
       hb_font_set_scale (scaled, scales[k][0], scales[k][1]);
       expect (kus_font_set_scale (&own, scales[k][0], scales[k][1]) == KUS_OK, "a scale", "");
@@ -230,7 +300,9 @@ main (int argc, char **arguments)
   kus_font_destroy (&own);
   kus_font_destroy (&listed);
   kus_font_destroy (&asked);
+  kus_font_destroy (&mapped);
   hb_font_destroy (with);
+  hb_font_destroy (other_mapped);
   hb_font_destroy (plain);
   hb_font_destroy (scaled);
   hb_face_destroy (face);
