@@ -3,7 +3,7 @@
 
 pub use buffer_glyphs::cause::ShapeCause;
 pub use script_categories::SyllableTable;
-pub use shape_slices::slices::{SourceSlice, source_slices};
+pub use shape_slices::slices::{SourceSlice, source_slices, unit_slices};
 pub use shell_face_json::read_face;
 pub use shell_json::fault::JsonFault;
 pub use shell_readers::fault::RunFault;
@@ -13,5 +13,5 @@ pub use shell_words::{CommandLine, parse_options};
 
 /// Whether a result has slices.
 pub mod fitting {
-    pub use shape_slices::fitting::slices_fit;
+    pub use shape_slices::fitting::{slices_fit, units_fit};
 }

@@ -1,5 +1,5 @@
 -- The tests of clusters decide whether they fit a text.
-use Rattle.std.proofs.Common.{ℕ, ◌≡◌, ◌≤◌, ◌==◌, ◌&&◌, ◌||◌, ◌⊎◌, ◌↔◌, inl, inr, Bool, true, false, not, nat_le, IsTrue, List, [], ◌∷◌, arith, refl, sym, ap, subst, ◌∙◌}
+use Rattle.std.proofs.Common.{ℕ, ◌≡◌, ◌≤◌, ◌<◌, ◌==◌, ◌&&◌, ◌||◌, ◌⊎◌, ◌↔◌, inl, inr, Bool, true, false, not, nat_le, nat_lt, IsTrue, List, [], ◌∷◌, arith, refl, sym, ap, subst, ◌∙◌}
 use Rattle.std.specs.List.{list_all}
 use Rattle.std.proofs.lemmas.Bool.{and_parts}
 use Rattle.std.proofs.lemmas.Bool.Decides.{nat_tests}
@@ -8,7 +8,10 @@ use Rattle.buffer_glyphs.specs.Order.{AllFrom, BringsNone, IsFalling, IsInOrder,
 use Rattle.buffer_glyphs.specs.Lemmas.Numbers.{Has, has_cases, has_here, has_more}
 use Rattle.buffer_parts.specs.Fits.{FitsText}
 use Rattle.buffer_parts.specs.Slices.{first_or}
-use Rattle.shape_slices.specs.Deciding.{are_fitting, fall_from, rise_from}
+use Rattle.buffer_core.specs.Sides.{Sides, all_glyphs}
+use Rattle.buffer_glyphs.specs.Items.{clusters}
+use Rattle.shape_slices.specs.Deciding.{are_fitting, are_fitting_units, fall_from, rise_from}
+use Rattle.shape_slices.specs.Fitting.{UnitsFit}
 use Rattle.buffer_facts.proofs.Truth.{or_first as first_true, or_second as second_true, either_true, and_true as both_true}
 use Rattle.buffer_facts.proofs.Numbers.{at_most_by_test as le_of, test_of_at_most as of_le}
 
@@ -77,6 +80,45 @@ starts_from starts (m ∷ ms) e n h =
 from_starts : (starts ns : List ℕ) → BringsNone starts ns → list_all (λ n. has_number starts n) ns ≡ true
 from_starts starts [] h = refl
 from_starts starts (m ∷ ms) h = both_true (has_number starts m) (list_all (λ k. has_number starts k) ms) (h m (has_here m ms)) (from_starts starts ms (λ n k. h n (has_more m n ms k)))
+
+-- ---- units
+
+below_from : (end : ℕ) (ns : List ℕ) → list_all (λ n. nat_lt n end) ns ≡ true → (n : ℕ) → Has ns n → n < end
+below_from end [] e n h = cc
+below_from end (m ∷ ms) e n h =
+    let both = and_parts (nat_lt m end) (list_all (λ k. nat_lt k end) ms) e in
+    elim (has_cases m n ms h) [ inl here ↦ subst (λ k. k < end) here (lt_of m end both.0) | inr later ↦ below_from end ms both.1 n later ]
+  where
+    lt_of : (a b : ℕ) → nat_lt a b ≡ true → a < b
+    lt_of a b e = grind (arith, nat_tests, e)
+
+from_below : (end : ℕ) (ns : List ℕ) → ((n : ℕ) → Has ns n → n < end) → list_all (λ n. nat_lt n end) ns ≡ true
+from_below end [] h = refl
+from_below end (m ∷ ms) h = both_true (nat_lt m end) (list_all (λ k. nat_lt k end) ms) (of_lt m end (h m (has_here m ms))) (from_below end ms (λ n k. h n (has_more m n ms k)))
+  where
+    of_lt : (a b : ℕ) → a < b → nat_lt a b ≡ true
+    of_lt a b lt = grind (arith, nat_tests, lt)
+
+abbrev are_below : ℕ → List ℕ → Bool
+are_below end ns = list_all (λ n. nat_lt n end) ns
+
+units_from_tests : (result : Sides) (end : ℕ) → are_fitting_units end (clusters (all_glyphs result)) ≡ true → UnitsFit result end
+units_from_tests result end e =
+    let ns = clusters (all_glyphs result) in
+    let all = and_parts ((rise_from 0 ns || fall_from (first_or 0 ns) ns) && are_below end ns) (has_number ns 0) e in
+    let both = and_parts (rise_from 0 ns || fall_from (first_or 0 ns) ns) (are_below end ns) all.0 in
+    record { ordered = ordered_from ns both.0; within = below_from end ns both.1; zero_there = all.1 }
+
+tests_from_units : (result : Sides) (end : ℕ) → UnitsFit result end → are_fitting_units end (clusters (all_glyphs result)) ≡ true
+tests_from_units result end f =
+    let ns = clusters (all_glyphs result) in
+    both_true ((rise_from 0 ns || fall_from (first_or 0 ns) ns) && are_below end ns) (has_number ns 0)
+    (both_true (rise_from 0 ns || fall_from (first_or 0 ns) ns) (are_below end ns) (from_ordered ns f.ordered) (from_below end ns f.within))
+    f.zero_there
+
+-- the tests of clusters decide whether they fit a text of units
+pub units_exactly : (result : Sides) (end : ℕ) → IsTrue (are_fitting_units end (clusters (all_glyphs result))) ↔ UnitsFit result end
+units_exactly result end = (units_from_tests result end, tests_from_units result end)
 
 -- ---- all
 

@@ -1,5 +1,5 @@
 -- Tests of clusters.
-use Rattle.std.specs.Prelude.{ℕ, ◌&&◌, ◌||◌, Bool, true, nat_le, List, [], ◌∷◌}
+use Rattle.std.specs.Prelude.{ℕ, ◌&&◌, ◌||◌, Bool, true, nat_le, nat_lt, List, [], ◌∷◌}
 use Rattle.std.specs.List.{list_all}
 use Rattle.buffer_glyphs.specs.Order.{has_number}
 use Rattle.buffer_parts.specs.Slices.{first_or}
@@ -21,3 +21,7 @@ are_ordered ns = rise_from 0 ns || fall_from (first_or 0 ns) ns
 -- clusters never decrease or never increase, each is one of the starts, and 0 is among them
 abbrev pub are_fitting : List ℕ → List ℕ → Bool
 are_fitting starts ns = (are_ordered ns && list_all (λ n. has_number starts n) ns) && has_number ns 0
+
+-- clusters never decrease or never increase, each is below `end`, and 0 is among them
+abbrev pub are_fitting_units : ℕ → List ℕ → Bool
+are_fitting_units end ns = (are_ordered ns && list_all (λ n. nat_lt n end) ns) && has_number ns 0

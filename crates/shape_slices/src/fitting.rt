@@ -1,11 +1,11 @@
 //! Whether a result can be traced to its text (of this project).
-ghost use Rattle.std.specs.Prelude.{◌≡◌, ◌↔◌, IsTrue};
+ghost use Rattle.std.specs.Prelude.{◌≡◌, ◌↔◌, IsTrue, nat_lt};
 ghost use Rattle.std.specs.List.{list_all};
 ghost use Rattle.buffer_glyphs.specs.Items.{clusters};
 ghost use Rattle.buffer_glyphs.specs.Order.{has_number};
 ghost use Rattle.buffer_parts.specs.Slices.{first_or};
-ghost use Rattle.shape_slices.specs.Deciding.{are_fitting, are_ordered, fall_from, rise_from};
-ghost use Rattle.shape_slices.specs.Fitting.{SlicesFit, character_starts};
+ghost use Rattle.shape_slices.specs.Deciding.{are_fitting, are_fitting_units, are_ordered, fall_from, rise_from};
+ghost use Rattle.shape_slices.specs.Fitting.{SlicesFit, UnitsFit, character_starts};
 
 use buffer_glyphs::info::hb_glyph_info_t;
 use buffer_wrappers::glyphs::GlyphBuffer;
@@ -17,6 +17,34 @@ pub fn slices_fit(glyphs: &GlyphBuffer, text: &str) -> bool
     ensures { IsTrue result ↔ SlicesFit glyphs.now text.now }
 {
     are_fitting(glyphs.glyph_infos(), text)
+}
+
+/// Whether the clusters of a result never fall or never rise, each is the index of one of `end` units, as of UTF-16, and 0 is among
+/// them. Takes no memory.
+#[tactic(auto, using(crate::proofs::Fits::units_exactly))]
+pub fn units_fit(glyphs: &GlyphBuffer, end: usize) -> bool
+    ensures { IsTrue result ↔ UnitsFit glyphs.now end }
+{
+    are_fitting_units(glyphs.glyph_infos(), end)
+}
+
+/// Whether the clusters of some glyphs fit a text of `end` units.
+fn are_fitting_units(glyphs: &[hb_glyph_info_t], end: usize) -> bool
+    ensures { result ≡ are_fitting_units end (clusters glyphs.now) }
+{
+    are_in_order(glyphs) && are_all_below(glyphs, end) && has_first(glyphs)
+}
+
+/// Whether each cluster is below `end`.
+fn are_all_below(glyphs: &[hb_glyph_info_t], end: usize) -> bool
+    ensures { result ≡ list_all (λ n. nat_lt n end) (clusters glyphs.now) }
+{
+    for glyph in glyphs {
+        if glyph.cluster as usize >= end {
+            return false;
+        }
+    }
+    true
 }
 
 /// Whether the clusters of some glyphs fit a text.

@@ -35,6 +35,17 @@ pub fn source_slices(
     slices_of(alloc, glyphs.glyph_infos(), text.len())
 }
 
+/// The same with the units of a text of `end` units that clusters are of, as of UTF-16. It takes no memory for the text.
+pub fn unit_slices(
+    alloc: Global,
+    glyphs: &GlyphBuffer,
+    end: usize,
+) -> Result<Vec<SourceSlice>, AllocError>
+    ensures { IfOk result (λ slices. AreSourceSlices (clusters (all_glyphs glyphs.now)) end slices.items) }
+{
+    slices_of(alloc, glyphs.glyph_infos(), end)
+}
+
 /// The runs of glyphs, with their bytes of a text of `end` bytes.
 fn slices_of(
     alloc: Global,
