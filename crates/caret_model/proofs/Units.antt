@@ -1,22 +1,23 @@
 -- The lines of texts of units.
-use Rattle.std.proofs.Common.{ℕ, zero, suc, ◌≡◌, ◌≤◌, ◌<◌, ◌+◌, ◌*◌, List, [], ◌∷◌, length, map, arith, inl, inr, refl, sym, ap, subst, ◌∙◌}
-use Rattle.std.specs.Prelude.{IsTrue}
+use Rattle.std.proofs.Common.{ℕ, zero, suc, ◌≡◌, ◌≤◌, ◌<◌, ◌+◌, Bool, true, false, List, [], ◌∷◌, length, arith, refl, sym, ap, subst, ◌∙◌}
 use Rattle.std.specs.List.{repeat}
 use Rattle.std.specs.Str.{IsAscii, chars}
-use Rattle.std.proofs.lemmas.Str.{chars-IsAscii}
+use Rattle.std.proofs.lemmas.Str.{IsUtf8-from_ascii, chars-IsAscii}
 use Rattle.kuspveli.specs.buffer_common.Direction.{is_backward}
 use Rattle.kuspveli.specs.buffer_common.declared.direction.Direction.{Direction}
 use Rattle.kuspveli.specs.buffer_glyphs.Items.{clusters}
-use Rattle.kuspveli.specs.buffer_glyphs.Order.{BringsNone, has_number}
 use Rattle.kuspveli.specs.buffer_glyphs.Lemmas.Numbers.{Has, has_here, has_more}
-use Rattle.kuspveli.specs.buffer_parts.Slices.{AreJoined}
-use Rattle.kuspveli.specs.shape_slices.Fitting.{character_starts}
-use Rattle.kuspveli.specs.shape_slices.Runs.{AreSourceSlices, along_glyphs, byte_range}
+use Rattle.kuspveli.specs.shape_slices.declared.slices.SourceSlice.{SourceSlice}
+use Rattle.kuspveli.specs.shape_slices.Fitting.{SlicesFit, UnitsFit, character_starts}
+use Rattle.kuspveli.specs.shape_slices.Laws.{SourceSlicesJoin}
+use Rattle.kuspveli.specs.shape_slices.Runs.{AreSourceSlices}
 use Rattle.kuspveli.specs.shaping_buffer.buffer_core.Sides.{Sides, all_glyphs}
 use Rattle.kuspveli.specs.shaping_buffer.buffer_core.Text.{offsets_from}
-use Rattle.caret_model.specs.declared.carets.CaretFault.{CaretFault}
-use Rattle.caret_model.specs.declared.carets.CaretFault.TheVariants.{OutOfMemory, NoSlices, TooManyGlyphs, InvalidStops}
-use Rattle.caret_model.specs.Lines.{HasLine, HasLineTo, IsFaultOf, IsFaultTo, IsLineOf, IsLineTo, Line}
+use Rattle.caret_model.specs.declared.carets.Caret.{Caret}
+use Rattle.caret_model.specs.Lines.{HasLineTo, IsLineTo, carets_of}
+use Rattle.caret_model.specs.Pens.{are_at_beginning}
+use Rattle.caret_model.proofs.Beginnings.{joined_begins}
+use Rattle.caret_model.proofs.Made.{made_line}
 
 -- as many letters as a text has units
 abbrev letters : ℕ → List ℕ
@@ -45,20 +46,28 @@ starts n i lt =
     zero_plus : (i : ℕ) → 0 + i ≡ i
     zero_plus i = omega arith
 
-pub line_to : (d : Direction) (result : Sides) (end : ℕ) (text : List ℕ) (l : Line) → text ≡ repeat end (97 ∷ []) → IsLineOf d result text l → IsLineTo d result end l
-line_to d result end text l same is = subst (λ n. IsLineTo d result n l) (ap length same ∙ letters_count end) is
+-- clusters that fit a text of units fit the text of as many letters
+fits_letters : (result : Sides) (end : ℕ) → UnitsFit result end → SlicesFit result (letters end)
+fits_letters result end fits = record { ordered = fits.ordered; starting = λ n there. starts end n (fits.within n there); zero_there = fits.zero_there }
 
--- a text of units has a line where the letters have one
-has_line : (d : Direction) (result : Sides) (end : ℕ) (text : List ℕ) → text ≡ repeat end (97 ∷ []) → HasLineTo d result end → HasLine d result text
-has_line d result end text same has =
-    let P : List ℕ → Type 0 = λ t. HasLine d result t in
-    subst P (sym same) (record {
-      fits = record { ordered = has.ordered; starting = λ n there. starts end n (has.within n there); zero_there = has.zero_there };
-      joined = λ ss are. subst (λ n. AreJoined 0 n (along_glyphs (is_backward d) (map byte_range ss))) (sym (letters_count end)) (has.joined ss (subst (λ n. AreSourceSlices (clusters (all_glyphs result)) n ss) (letters_count end) are));
-    })
+-- slices whose first one is at the beginning of the line are those of a line
+pub units_line : SourceSlicesJoin → (d : Direction) (result : Sides) (end : ℕ) (ss : List SourceSlice) (cs : List Caret) (backward test : Bool) → UnitsFit result end → AreSourceSlices (clusters (all_glyphs result)) end ss
+    → backward ≡ is_backward d → test ≡ are_at_beginning backward end ss → test ≡ true → cs ≡ carets_of d result.positions end ss
+    → IsLineTo d result end (record { slices = ss; carets = cs; backward = backward; end = end })
+units_line law d result end ss cs backward test fits are same is passed carets =
+    let text = letters end in
+    let P : ℕ → Type 0 = λ n. AreSourceSlices (clusters (all_glyphs result)) n ss → test ≡ are_at_beginning backward n ss → cs ≡ carets_of d result.positions n ss → IsLineTo d result n (record { slices = ss; carets = cs; backward = backward; end = n }) in
+    let of_letters : P (length text) = λ are is carets. made_line law d result text ss cs backward test (IsUtf8-from_ascii text (are_ascii end)) (fits_letters result end fits) are same is passed carets in
+    subst P (letters_count end) of_letters are is carets
 
-pub fault_to : (d : Direction) (result : Sides) (end : ℕ) (text : List ℕ) (e : CaretFault) → text ≡ repeat end (97 ∷ []) → IsFaultOf d result text e → IsFaultTo d result end e
-fault_to d result end text OutOfMemory same is = tt
-fault_to d result end text NoSlices same is = λ has. is (has_line d result end text same has)
-fault_to d result end text TooManyGlyphs same is = is
-fault_to d result end text InvalidStops same is = is
+-- slices whose first one is not there don't join along the line
+pub units_without_line : (d : Direction) (result : Sides) (end : ℕ) (ss : List SourceSlice) (backward test : Bool) → AreSourceSlices (clusters (all_glyphs result)) end ss → backward ≡ is_backward d → test ≡ are_at_beginning backward end ss → test ≡ false
+    → ¬ HasLineTo d result end
+units_without_line d result end ss backward test are same is failed has =
+    let begins : are_at_beginning backward end ss ≡ true = ap (λ b. are_at_beginning b end ss) same ∙ joined_begins (is_backward d) end ss (has.joined ss are) in
+    let contrary : false ≡ true = sym failed ∙ is ∙ begins in
+    cc
+
+-- a result that doesn't fit has no line
+pub without_fit : (d : Direction) (result : Sides) (end : ℕ) → ¬ UnitsFit result end → ¬ HasLineTo d result end
+without_fit d result end no has = no (record { ordered = has.ordered; within = has.within; zero_there = has.zero_there })

@@ -11,8 +11,8 @@ use crate::line::{are_at_beginning, carets_of};
 use crate::moves::{closest, get, index_at, nearest};
 use crate::stops::{are_stops, with_stops};
 use font_carets::{LigatureCarets, SortedRows, no_ligatures};
-use kuspveli::hb_shape::fitting::slices_fit;
-use kuspveli::hb_shape::{SourceSlice, source_slices};
+use kuspveli::hb_shape::fitting::{slices_fit, units_fit};
+use kuspveli::hb_shape::{SourceSlice, source_slices, unit_slices};
 use kuspveli::laws::slices::laws::law_source_slices_join;
 use kuspveli::{Direction, GlyphBuffer, GlyphInfo};
 use std::alloc::Global;
@@ -73,7 +73,7 @@ impl CaretModel {
 
     /// The carets of the result of a text of `end` units that its clusters are of, as of UTF-16; a caret's byte is then the
     /// index of a unit.
-    #[tactic(auto, using(crate::proofs::Units::line_to, crate::proofs::Units::fault_to))]
+    #[tactic(auto, using(crate::proofs::Units::without_fit))]
     pub fn of_units(
         alloc: Global,
         glyphs: &GlyphBuffer,
@@ -84,9 +84,25 @@ impl CaretModel {
         ensures few { OnOk result (length (all_glyphs glyphs.now) < 2 ^ 32) }
         ensures fault { IfErr result (IsFaultTo direction glyphs.now end) }
     {
-        // a line depends on where characters begin alone: these begin at each unit
-        let units = "a".repeat(alloc, end)?;
-        CaretModel::new(alloc, glyphs, &units, direction)
+        if !units_fit(glyphs, end) {
+            return Err(CaretFault::NoSlices);
+        }
+        if glyphs.len() > u32::MAX as usize {
+            return Err(CaretFault::TooManyGlyphs);
+        }
+        law_source_slices_join();
+        let backward = direction.is_backward();
+        let slices = unit_slices(alloc, glyphs, end)?;
+        if !are_at_beginning(backward, end, &slices) {
+            return Err(CaretFault::NoSlices);
+        }
+        let carets = carets_of(alloc, direction, glyphs.glyph_positions(), end, &slices)?;
+        Ok(CaretModel {
+            slices,
+            carets,
+            backward,
+            end,
+        })
     }
 
     /// The carets from left to right; of a vertical line, from its top.
