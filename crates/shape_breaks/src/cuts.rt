@@ -1,0 +1,204 @@
+//! The tests of a cut.
+ghost use Rattle.std.specs.Prelude.{◌≡◌, ◌↔◌, IsTrue, not, codes};
+ghost use Rattle.buffer_core.specs.Sides.{all_glyphs, state_of};
+ghost use Rattle.buffer_glyphs.specs.Items.{clusters};
+ghost use Rattle.layout_map.specs.Masks.{has_mask};
+ghost use Rattle.script_joining.specs.Joining.{is_mongolian};
+ghost use Rattle.shape_laws.specs.Breaks.InLine.{MayBeCutAt};
+ghost use Rattle.shape_breaks.specs.Cuts.{arabic_may_be_cut, follows_joiner, hangul_may_be_cut, have_alike, is_inside, is_marked_after, is_marked_before, is_plain_beginning, marks_may_be_cut, may_be_broken, may_be_cut_by, passes_at, thai_may_be_cut};
+ghost use Rattle.shape_breaks.specs.Texts.{is_above};
+
+use crate::premises::BreakPremises;
+use crate::texts::{Occurrences, TextMarks, is_above, is_mark};
+use buffer_common::direction::Direction;
+use buffer_common::script::{MONGOLIAN, Script};
+use buffer_common::tag::{Tag, TagExt};
+use buffer_wrappers::glyphs::GlyphBuffer;
+use script_categories::hb_ot_script_shaper_t::{
+    ARABIC_SHAPER, HANGUL_SHAPER, HEBREW_SHAPER, MYANMAR_ZAWGYI_SHAPER, THAI_SHAPER,
+};
+use script_dispatch::hb_ot_any_shaper_t;
+use script_plan::plan::hb_ot_shape_plan_t;
+
+/// COMBINING GRAPHEME JOINER.
+const GRAPHEME_JOINER: char = '\u{34F}';
+
+/// Whether a text may be broken before the character at an index, under a plan for it: the characters that were pushed
+/// are `text`, of which `marks` are found (`TextMarks::of_text`). It takes constant time. Where it answers true, and no
+/// glyph of the cluster there is unsafe to break (`is_safe_to_break`), the two pieces show the glyphs of the whole
+/// (`law_broken_texts_show_both`, which lists what of the pieces isn't tested). It answers false where the shaper finds
+/// syllables.
+pub fn may_be_broken(
+    premises: BreakPremises,
+    plan: &hb_ot_shape_plan_t<hb_ot_any_shaper_t>,
+    text: &[char],
+    marks: TextMarks,
+    at: usize,
+) -> bool
+    ensures { result
+        ≡ may_be_broken premises plan.now.shaper plan.now.script_plan.direction plan.now.script_plan.script
+        text.now marks at }
+{
+    is_inside(text, at)
+        && (premises.is_lawful && premises.keeps_marks)
+        && may_be_cut_by(plan, premises, text, marks, at)
+}
+
+/// Whether the plan has no feature that records tiles, which stretch words (OpenType, feature stch).
+pub fn has_no_stretching(plan: &hb_ot_shape_plan_t<hb_ot_any_shaper_t>) -> bool
+    ensures { result ≡ not (has_mask (codes "stch") plan.now.script_plan.map) }
+{
+    plan.script_plan.map.get_1_mask(Tag::from_bytes(b"stch")) == 0
+}
+
+/// Whether a result may be cut before a cluster: it has a glyph of it, and none of these has UNSAFE_TO_BREAK. It walks
+/// the glyphs: of many cuts, walk glyphs and cuts side by side.
+pub fn is_safe_to_break(glyphs: &GlyphBuffer, cluster: u32) -> bool
+    ensures { IsTrue result ↔ MayBeCutAt cluster (state_of glyphs.now) }
+{
+    let mut found = false;
+    for info in glyphs.glyph_infos() {
+        if info.cluster == cluster {
+            if info.unsafe_to_break() {
+                return false;
+            }
+            found = true;
+        }
+    }
+    found
+}
+
+fn may_be_cut_by(
+    plan: &hb_ot_shape_plan_t<hb_ot_any_shaper_t>,
+    premises: BreakPremises,
+    text: &[char],
+    marks: TextMarks,
+    at: usize,
+) -> bool
+    ensures { result
+        ≡ may_be_cut_by plan.now.shaper premises plan.now.script_plan.direction plan.now.script_plan.script
+        text.now marks at }
+{
+    match plan.shaper {
+        hb_ot_any_shaper_t::Default
+        | hb_ot_any_shaper_t::Dumber
+        | hb_ot_any_shaper_t::Script(HEBREW_SHAPER | MYANMAR_ZAWGYI_SHAPER) => {
+            marks_may_be_cut(text, marks, at)
+        }
+        hb_ot_any_shaper_t::Script(ARABIC_SHAPER) => arabic_may_be_cut(
+            premises,
+            plan.script_plan.direction,
+            plan.script_plan.script,
+            text,
+            marks,
+            at,
+        ),
+        hb_ot_any_shaper_t::Script(THAI_SHAPER) => thai_may_be_cut(premises, text, marks, at),
+        hb_ot_any_shaper_t::Script(HANGUL_SHAPER) => hangul_may_be_cut(text, marks, at),
+        hb_ot_any_shaper_t::Script(_) => false,
+    }
+}
+
+fn is_inside(text: &[char], at: usize) -> bool
+    ensures { result ≡ is_inside text.now at }
+{
+    0 < at && at < text.len()
+}
+
+fn have_alike(found: Occurrences, at: usize) -> bool
+    ensures { result ≡ have_alike found at }
+{
+    found.is_nowhere() || (found.is_before(at) && found.is_after(at))
+}
+
+/// Whether U+034F is directly before an index, or begins the text where that is 0.
+fn follows_joiner(text: &[char], at: usize) -> bool
+    ensures { result ≡ follows_joiner text.now at }
+{
+    match text.get(at.saturating_sub(1)) {
+        Some(u) => *u == GRAPHEME_JOINER,
+        None => false,
+    }
+}
+
+fn marks_may_be_cut(text: &[char], marks: TextMarks, at: usize) -> bool
+    ensures { result ≡ marks_may_be_cut text.now marks at }
+{
+    have_alike(marks.marks, at) && !follows_joiner(text, at)
+}
+
+fn arabic_may_be_cut(
+    premises: BreakPremises,
+    direction: Direction,
+    script: Option<Script>,
+    text: &[char],
+    marks: TextMarks,
+    at: usize,
+) -> bool
+    ensures { result ≡ arabic_may_be_cut premises direction script text.now marks at }
+{
+    (premises.keeps_types && marks_may_be_cut(text, marks, at))
+        && (marks.letters.is_from(at)
+            && !((direction.is_backward() && direction.is_vertical()) || is_mongolian(script)))
+}
+
+fn is_mongolian(script: Option<Script>) -> bool
+    ensures { result ≡ is_mongolian script }
+{
+    match script {
+        Some(script) => script == MONGOLIAN,
+        None => false,
+    }
+}
+
+fn thai_may_be_cut(premises: BreakPremises, text: &[char], marks: TextMarks, at: usize) -> bool
+    ensures { result ≡ thai_may_be_cut premises text.now marks at }
+{
+    (premises.keeps_private_marks && begins_plainly(text, at))
+        && (!follows_joiner(text, at)
+            && ((marks.marks.is_nowhere() && marks.vowels.is_nowhere())
+                || (is_marked_before(text, marks, at) && is_marked_after(text, marks, at))))
+}
+
+fn begins_plainly(text: &[char], at: usize) -> bool
+    ensures { result ≡ passes_at is_plain_beginning text.now at }
+{
+    match text.get(at) {
+        Some(u) => is_plain_beginning(*u),
+        None => false,
+    }
+}
+
+/// Whether a character is a mark, or none that the Thai shaper takes for one.
+fn is_plain_beginning(u: char) -> bool
+    ensures { result ≡ is_plain_beginning u }
+{
+    is_mark(u) || !(is_above(u) || matches!(u, '\u{E38}'..='\u{E3A}'))
+}
+
+fn is_marked_before(text: &[char], marks: TextMarks, at: usize) -> bool
+    ensures { result ≡ is_marked_before text.now marks at }
+{
+    marks.plain_marks.is_before(at) || (!is_above_at(text, 0) && marks.vowels.is_before(at))
+}
+
+fn is_marked_after(text: &[char], marks: TextMarks, at: usize) -> bool
+    ensures { result ≡ is_marked_after text.now marks at }
+{
+    marks.plain_marks.is_after(at) || (!is_above_at(text, at) && marks.vowels.is_after(at))
+}
+
+fn is_above_at(text: &[char], at: usize) -> bool
+    ensures { result ≡ passes_at is_above text.now at }
+{
+    match text.get(at) {
+        Some(u) => is_above(*u),
+        None => false,
+    }
+}
+
+fn hangul_may_be_cut(text: &[char], marks: TextMarks, at: usize) -> bool
+    ensures { result ≡ hangul_may_be_cut text.now marks at }
+{
+    marks.marks.is_nowhere() && !follows_joiner(text, at)
+}
