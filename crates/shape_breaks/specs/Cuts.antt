@@ -1,10 +1,9 @@
 -- Where a text may be cut into two, as far as its characters, its shaper, tables and font decide it.
-use Rattle.std.specs.Prelude.{ℕ, ◌-◌, ◌+◌, ◌↔◌, ◌==◌, ◌&&◌, ◌||◌, Bool, true, false, not, nat_le, nat_lt, IsTrue, List, length, slice_get}
+use Rattle.std.specs.Prelude.{ℕ, ◌-◌, ◌↔◌, ◌==◌, ◌&&◌, ◌||◌, Bool, false, not, nat_le, nat_lt, IsTrue, List, Option, length, slice_get}
 use Rattle.std.specs.Option.{option_map_or}
 use Rattle.buffer_common.specs.Direction.{is_backward, is_vertical}
 use Rattle.buffer_common.specs.declared.direction.Direction.{Direction}
 use Rattle.buffer_common.specs.declared.script.Script.{Script}
-use Rattle.std.specs.Prelude.{Option}
 use Rattle.buffer_unicode_tables.specs.Lawful.{IsLawful}
 use Rattle.buffer_unicode_tables.specs.Tables.{Tables}
 use Rattle.buffer_properties.specs.Properties.{is_mark_character}

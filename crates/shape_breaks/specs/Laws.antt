@@ -1,5 +1,5 @@
 -- What the tests promise: where they say that a text may be broken, the law of safe breaks holds of it.
-use Rattle.std.specs.Prelude.{ℕ, ⊤, ◌≡◌, ◌++◌, Bool, true, List, Option, take, drop, reverse}
+use Rattle.std.specs.Prelude.{ℕ, ⊤, ◌≡◌, ◌++◌, true, List, Some, take, drop, reverse}
 use Rattle.buffer_common.specs.declared.tag.Tag.{Tag}
 use Rattle.buffer_tags.specs.declared.feature.Feature.{Feature}
 use Rattle.buffer_unicode_tables.specs.Tables.{Tables, pair_of, split_of}
@@ -29,7 +29,7 @@ use Rattle.shape_breaks.specs.Texts.{text_marks}
 -- a shaper decomposes and composes characters as tables do
 pub record FollowsTables (p : Shaping) : Type 0 where
   pub splits : (u : ℕ) → p.rules.splits p.tables u ≡ split_of p.tables u
-  pub composes : (a b u : ℕ) → p.rules.composes p.tables a b ≡ Option.Some u → pair_of p.tables a b ≡ Option.Some u
+  pub composes : (a b u : ℕ) → p.rules.composes p.tables a b ≡ Some u → pair_of p.tables a b ≡ Some u
 
 -- law: where tables and font keep marks, what stands for a character by a shaper does
 abbrev pub TablesKeepMarks : Type 0

@@ -3,7 +3,7 @@ ghost use Rattle.shape_breaks.specs.Laws.{BrokenTextsShowBoth, BrokenTextsShowBo
 ghost use Rattle.shape_breaks.specs.ManyCuts.{TextsShowAllPieces};
 
 use shape_laws::breaks::break_laws::{law_planned_safe_breaks, law_safe_breaks};
-use shape_laws::breaks::chain_laws::law_nearest_contexts_show;
+use shape_laws::breaks::chain_laws::{law_nearest_contexts_show, law_tones_are_marks};
 use shape_pipeline::laws::law_texts_keep_numbers;
 
 /// What stands for a character by a shaper keeps marks, where tables and font do.
@@ -24,6 +24,7 @@ pub fn law_broken_texts_show_both_by_plans()
     law_tables_keep_marks();
     law_tables_keep_types();
     law_nearest_contexts_show();
+    law_tones_are_marks();
 }
 
 /// Safe breaks of `shape`, where `may_be_broken` answers true.
@@ -34,6 +35,7 @@ pub fn law_broken_texts_show_both()
     law_tables_keep_marks();
     law_tables_keep_types();
     law_nearest_contexts_show();
+    law_tones_are_marks();
 }
 
 /// A text that is cut at many places at once shows all its pieces.
