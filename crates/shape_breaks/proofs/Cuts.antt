@@ -1,9 +1,10 @@
 -- A text that may be broken by the tests may be cut by its shaper.
-use Rattle.std.proofs.Common.{ℕ, suc, zero, ◌≡◌, ◌<◌, ◌==◌, ◌&&◌, ◌||◌, ◌⊎◌, not, nat_le, nat_lt, inl, inr, if◌then◌else◌, Bool, true, false, List, [], ◌∷◌, ◌++◌, length, map, take, drop, Option, None, Some, arith, refl, sym, ap, subst, ◌∙◌}
+use Rattle.std.proofs.Common.{ℕ, suc, zero, ◌≡◌, ◌≢◌, ◌≤◌, ◌<◌, ◌==◌, ◌&&◌, ◌||◌, not, nat_le, nat_lt, inl, inr, if◌then◌else◌, Bool, true, false, List, [], ◌∷◌, ◌++◌, length, map, take, drop, Option, None, Some, arith, refl, sym, ap, subst, ◌∙◌}
 use Rattle.std.specs.Prelude.{⊤, reverse, slice_get}
-use Rattle.std.specs.List.{list_any}
+use Rattle.std.specs.List.{list_all, list_any}
 use Rattle.std.specs.Option.{option_map_or}
 use Rattle.std.proofs.lemmas.Bool.Decides.{nat_tests}
+use Rattle.buffer_facts.proofs.Numbers.{test_of_apart}
 use Rattle.buffer_facts.proofs.Truth.{both_true, either_true, false_by_not, neither_true}
 use Rattle.buffer_common.specs.Direction.{is_backward, is_vertical}
 use Rattle.buffer_unicode_tables.specs.Lawful.{IsLawful}
@@ -21,7 +22,7 @@ use Rattle.script_hangul.specs.Steps.{has_no_width}
 use Rattle.script_joining.specs.Joining.{is_mongolian, types_of_characters}
 use Rattle.script_plan.specs.declared.plan.hb_script_plan_t.{hb_script_plan_t}
 use Rattle.script_plan.specs.Rules.{ShaperRules}
-use Rattle.script_thai.specs.declared.thai_private.Mark.TheVariants.{NotMark}
+use Rattle.script_thai.specs.declared.thai_private.Mark.TheVariants.{AV, BV, NotMark, T as MarkT}
 use Rattle.script_thai.specs.ThaiPrivate.{mark_of}
 use Rattle.script_thai.specs.ThaiVowel.{is_mark_above, is_sara_am}
 use Rattle.shape_pipeline.specs.Characters.{normalizer}
@@ -137,7 +138,33 @@ first_from p (u ∷ us) (suc n) = first_from p us n
 
 -- a character that the Thai shaper takes for no mark
 not_taken : (u : ℕ) → is_above u ≡ false → (nat_le 0x0E38 u && nat_le u 0x0E3A) ≡ false → mark_of u ≡ NotMark
-not_taken u above below = ?
+not_taken u above below = by_tests (list_any (λ v. u == v) vowels) (nat_le 0x0E38 u && nat_le u 0x0E3A) (nat_le 0x0E48 u && nat_le u 0x0E4C) (among_none vowels refl) below (tones (nat_le 0x0E48 u) (nat_le u 0x0E4C) refl refl)
+  where
+    vowels : List ℕ
+    vowels = 0x0E31 ∷ 0x0E34 ∷ 0x0E35 ∷ 0x0E36 ∷ 0x0E37 ∷ 0x0E47 ∷ 0x0E4D ∷ 0x0E4E ∷ []
+
+    other : (v : ℕ) → is_above v ≡ true → u ≢ v
+    other v e same = absurd (let both : true ≡ false = sym e ∙ ap is_above (sym same) ∙ above in cc)
+
+    among_none : (vs : List ℕ) → list_all is_above vs ≡ true → list_any (λ v. u == v) vs ≡ false
+    among_none [] e = refl
+    among_none (v ∷ vs) e =
+        let two = both_true (is_above v) (list_all is_above vs) e in
+        ap (λ b. b || list_any (λ w. u == w) vs) (test_of_apart u v (other v two.0)) ∙ among_none vs two.1
+
+    tones : (a b : Bool) → nat_le 0x0E48 u ≡ a → nat_le u 0x0E4C ≡ b → (a && b) ≡ false
+    tones true true e f =
+        let low : 0x0E48 ≤ u = grind (arith, nat_tests, e) in
+        let high : u ≤ 0x0E4C = grind (arith, nat_tests, f) in
+        absurd (omega (arith, low, high, other 0x0E48 refl, other 0x0E49 refl, other 0x0E4A refl, other 0x0E4B refl, other 0x0E4C refl))
+    tones true false e f = refl
+    tones false b e f = refl
+
+    by_tests : (a b c : Bool) → a ≡ false → b ≡ false → c ≡ false → (if a then AV else if b then BV else if c then MarkT else NotMark) ≡ NotMark
+    by_tests false false false e f g = refl
+    by_tests true b c e f g = cc
+    by_tests false true c e f g = cc
+    by_tests false false true e f g = cc
 
 begins : (xs : List Item) → passes_at is_plain_beginning (characters xs) 0 ≡ true → BeginsPlainly xs
 begins [] h = tt

@@ -1,7 +1,9 @@
+pub mod Walks
 pub mod Indices
 pub mod Rows
 pub mod Types
 pub mod Keeps
+pub mod Flags
 pub mod Cuts
 pub mod Broken
 pub mod Many

@@ -1,9 +1,12 @@
 -- Where a text may be cut into two, as far as its characters, its shaper, tables and font decide it.
-use Rattle.std.specs.Prelude.{ℕ, ◌-◌, ◌↔◌, ◌==◌, ◌&&◌, ◌||◌, Bool, false, not, nat_le, nat_lt, IsTrue, List, Option, length, slice_get}
+use Rattle.std.specs.Prelude.{ℕ, ◌-◌, ◌↔◌, ◌==◌, ◌&&◌, ◌||◌, Bool, false, not, nat_le, nat_lt, IsTrue, List, Option, bit_and, length, slice_get}
+use Rattle.std.specs.List.{list_any}
 use Rattle.std.specs.Option.{option_map_or}
 use Rattle.buffer_common.specs.Direction.{is_backward, is_vertical}
 use Rattle.buffer_common.specs.declared.direction.Direction.{Direction}
 use Rattle.buffer_common.specs.declared.script.Script.{Script}
+use Rattle.buffer_glyphs.specs.declared.info.TheConstants.{UNSAFE_TO_BREAK}
+use Rattle.buffer_glyphs.specs.declared.info.hb_glyph_info_t.{hb_glyph_info_t}
 use Rattle.buffer_unicode_tables.specs.Lawful.{IsLawful}
 use Rattle.buffer_unicode_tables.specs.Tables.{Tables}
 use Rattle.buffer_properties.specs.Properties.{is_mark_character}
@@ -60,10 +63,11 @@ abbrev pub arabic_may_be_cut : BreakPremises → Direction → Option Script →
 arabic_may_be_cut b d s us m at = (b.keeps_types && marks_may_be_cut us m at) && (is_from m.letters at && not ((is_backward d && is_vertical d) || is_mongolian s))
 
 -- a piece of Thai or Lao has a mark after its first character that is no SARA AM, or a SARA AM where its first character
--- is no mark above: the mark that is split off is not moved before that one. The piece before the cut, and that after it
+-- is no mark above: the mark that is split off is not moved before that one. So it is of the piece before the cut
 abbrev pub is_marked_before : List ℕ → TextMarks → ℕ → Bool
 is_marked_before us m at = is_before m.plain_marks at || (not (passes_at is_above us 0) && is_before m.vowels at)
 
+-- so it is of the piece after the cut
 abbrev pub is_marked_after : List ℕ → TextMarks → ℕ → Bool
 is_marked_after us m at = is_after m.plain_marks at || (not (passes_at is_above us at) && is_after m.vowels at)
 
@@ -100,3 +104,17 @@ may_be_cut_by (any.Script UNIVERSAL_SHAPER) b d s us m at = false
 -- marks with the font, and the shaper allows it
 abbrev pub may_be_broken : BreakPremises → hb_ot_any_shaper_t → Direction → Option Script → List ℕ → TextMarks → ℕ → Bool
 may_be_broken b shaper d s us m at = (is_inside us at && (b.is_lawful && b.keeps_marks)) && may_be_cut_by shaper b d s us m at
+
+-- ---- of a result
+
+-- a glyph is of a cluster
+abbrev pub is_of : ℕ → hb_glyph_info_t → Bool
+is_of c g = g.cluster == c
+
+-- a glyph is of a cluster, and has UNSAFE_TO_BREAK
+abbrev pub is_unsafe_of : ℕ → hb_glyph_info_t → Bool
+is_unsafe_of c g = g.cluster == c && not (bit_and g.mask UNSAFE_TO_BREAK == 0)
+
+-- there are glyphs of a cluster, and none of these has UNSAFE_TO_BREAK
+abbrev pub has_safe_glyph : ℕ → List hb_glyph_info_t → Bool
+has_safe_glyph c gs = list_any (is_of c) gs && not (list_any (is_unsafe_of c) gs)

@@ -1,11 +1,10 @@
 //! The tests of a cut.
-ghost use Rattle.std.specs.Prelude.{◌≡◌, ◌↔◌, IsTrue, not, codes};
-ghost use Rattle.buffer_core.specs.Sides.{all_glyphs, state_of};
-ghost use Rattle.buffer_glyphs.specs.Items.{clusters};
-ghost use Rattle.layout_map.specs.Masks.{has_mask};
+ghost use Rattle.std.specs.Prelude.{◌≡◌, ◌==◌, ◌↔◌, IsTrue, codes};
+ghost use Rattle.buffer_core.specs.Sides.{state_of};
+ghost use Rattle.layout_map.specs.Masks.{mask_at_one};
 ghost use Rattle.script_joining.specs.Joining.{is_mongolian};
 ghost use Rattle.shape_laws.specs.Breaks.InLine.{MayBeCutAt};
-ghost use Rattle.shape_breaks.specs.Cuts.{arabic_may_be_cut, follows_joiner, hangul_may_be_cut, have_alike, is_inside, is_marked_after, is_marked_before, is_plain_beginning, marks_may_be_cut, may_be_broken, may_be_cut_by, passes_at, thai_may_be_cut};
+ghost use Rattle.shape_breaks.specs.Cuts.{arabic_may_be_cut, follows_joiner, hangul_may_be_cut, has_safe_glyph, have_alike, is_inside, is_marked_after, is_marked_before, is_of, is_plain_beginning, is_unsafe_of, marks_may_be_cut, may_be_broken, may_be_cut_by, passes_at, thai_may_be_cut};
 ghost use Rattle.shape_breaks.specs.Texts.{is_above};
 
 use crate::premises::BreakPremises;
@@ -13,6 +12,7 @@ use crate::texts::{Occurrences, TextMarks, is_above, is_mark};
 use buffer_common::direction::Direction;
 use buffer_common::script::{MONGOLIAN, Script};
 use buffer_common::tag::{Tag, TagExt};
+use buffer_glyphs::info::hb_glyph_info_t;
 use buffer_wrappers::glyphs::GlyphBuffer;
 use script_categories::hb_ot_script_shaper_t::{
     ARABIC_SHAPER, HANGUL_SHAPER, HEBREW_SHAPER, MYANMAR_ZAWGYI_SHAPER, THAI_SHAPER,
@@ -46,26 +46,38 @@ pub fn may_be_broken(
 
 /// Whether the plan has no feature that records tiles, which stretch words (OpenType, feature stch).
 pub fn has_no_stretching(plan: &hb_ot_shape_plan_t<hb_ot_any_shaper_t>) -> bool
-    ensures { result ≡ not (has_mask (codes "stch") plan.now.script_plan.map) }
+    ensures { result ≡ (mask_at_one (codes "stch") plan.now.script_plan.map == 0) }
 {
     plan.script_plan.map.get_1_mask(Tag::from_bytes(b"stch")) == 0
 }
 
 /// Whether a result may be cut before a cluster: it has a glyph of it, and none of these has UNSAFE_TO_BREAK. It walks
 /// the glyphs: of many cuts, walk glyphs and cuts side by side.
+#[tactic(auto, using(crate::proofs::Flags::safe_decides))]
 pub fn is_safe_to_break(glyphs: &GlyphBuffer, cluster: u32) -> bool
     ensures { IsTrue result ↔ MayBeCutAt cluster (state_of glyphs.now) }
 {
-    let mut found = false;
-    for info in glyphs.glyph_infos() {
-        if info.cluster == cluster {
-            if info.unsafe_to_break() {
-                return false;
-            }
-            found = true;
-        }
-    }
-    found
+    has_safe_glyph(glyphs.glyph_infos(), cluster)
+}
+
+/// Whether there are glyphs of a cluster, and none of these has UNSAFE_TO_BREAK.
+fn has_safe_glyph(infos: &[hb_glyph_info_t], cluster: u32) -> bool
+    ensures { result ≡ has_safe_glyph cluster infos.now }
+{
+    infos.iter().any(|info| is_of(info, cluster))
+        && !infos.iter().any(|info| is_unsafe_of(info, cluster))
+}
+
+fn is_of(info: &hb_glyph_info_t, cluster: u32) -> bool
+    ensures { result ≡ is_of cluster info.now }
+{
+    info.cluster == cluster
+}
+
+fn is_unsafe_of(info: &hb_glyph_info_t, cluster: u32) -> bool
+    ensures { result ≡ is_unsafe_of cluster info.now }
+{
+    info.cluster == cluster && info.unsafe_to_break()
 }
 
 fn may_be_cut_by(

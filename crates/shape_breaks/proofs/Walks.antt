@@ -1,0 +1,10 @@
+-- What is true of each character below a number.
+use Rattle.std.proofs.Common.{ℕ, ◌≡◌, ◌<◌, ◌+◌, true, inl, inr, sym, subst, arith}
+use Rattle.std.proofs.lemmas.Bool.{cases_eq}
+use lib.Utf8.{scalar}
+
+pub one_more : (P : ℕ → Type 0) (n : ℕ) → ((u : ℕ) → u < n → scalar u ≡ true → P u) → (scalar n ≡ true → P n) → (u : ℕ) → u < n + 1 → scalar u ≡ true → P u
+one_more P n before here u lt is = elim (cases_eq u n) [
+  | inl e ↦ subst P (sym e) (here (subst (λ c. scalar c ≡ true) e is))
+  | inr apart ↦ before u (omega (arith, lt, apart)) is
+]
