@@ -1,4 +1,4 @@
--- A text that is cut at many places at once.
+-- A text that is cut before many clusters at once.
 use Rattle.std.specs.Prelude.{ℕ, ◌≡◌, Bool, List, [], ◌∷◌, ◌++◌, map}
 use Rattle.std.specs.List.{All}
 use Rattle.buffer_common.specs.declared.tag.Tag.{Tag}
@@ -84,7 +84,7 @@ pub record ShowsAll (falls : Bool) (whole : BufferState) (pieces : List BufferSt
   pub clusters : numbers whole.origins ≡ standing falls (map (λ (r : BufferState). numbers r.origins) pieces) (numbers last.origins)
   pub flags : SameButConcat whole.origins (standing falls (map (λ (r : BufferState). r.origins) pieces) last.origins)
 
--- law: a text that is cut at many places shows all its pieces, where its own result may be cut at each of them: the flags of
+-- law: a text that is cut before many clusters shows all its pieces, where its own result may be cut at each of them: the flags of
 -- the whole are enough, and the results of what is left need not be seen. Its premises are those of each cut of what is left
 -- of the text, and not those of each cut of the whole: a piece without marks between pieces with marks has none of its own
 -- to be normalized by, though at each of its ends the whole has marks on both sides

@@ -38,7 +38,7 @@ pub fn law_broken_texts_show_both()
     law_tones_are_marks();
 }
 
-/// A text that is cut at many places at once shows all its pieces.
+/// A text that is cut before many clusters at once shows all its pieces.
 pub fn law_texts_show_all_pieces()
     ensures { TextsShowAllPieces }
 {

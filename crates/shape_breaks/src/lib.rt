@@ -5,7 +5,7 @@
 //! What no call tests, and `law_broken_texts_show_both` has as premises:
 //! - The pieces are those that the text is cut into (`AreCut`, `AreTextsAt`), as `break_laws` lists it.
 //! - The limits of all three texts (`HaveEnough`): some budget is left (`nested_lookups_left`, of each of the three), and at
-//!   most 7 merges, of which no call tells the number.
+//!   most 7 merges, whose number no call gives.
 //! - Neither piece is refused (`AreShapedBy`): `shape` returns no error for it.
 //! - Under the Arabic shaper (`AreJoinedApart`): each piece has as its context what stands beside it
 //!   (`UnicodeBuffer::set_pre_context` and `set_post_context`), and none of the three texts has a tile. `has_no_stretching`

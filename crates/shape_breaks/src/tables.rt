@@ -1,7 +1,7 @@
 //! What stands for a character in tables and font: tests of all characters, made once for tables and font.
 //!
-//! Each test walks the characters of Unicode, of each of which the tables tell in constant time, by functions of one form.
-//! The rows of tables can't be walked from here.
+//! Each test walks the characters of Unicode by functions of one form, since the tables give their rows to no other crate;
+//! of each character they answer in constant time.
 ghost use Rattle.std.specs.Prelude.{◌≡◌, ◌<◌, ◌==◌, ◌||◌, ◌↔◌, IsTrue, true};
 ghost use Rattle.std.specs.List.{list_all};
 ghost use lib.Utf8.{scalar};
