@@ -111,8 +111,11 @@ marks_of_items : (t : Tables) (xs : List Item) → list_any (λ (x : Item). is_m
 marks_of_items t [] = refl
 marks_of_items t (x ∷ xs) = ap (λ b. is_mark_character x.number || b) (marks_of_items t xs)
 
--- a text with a mark that stays after its first character, or such a vowel after a first one that is no mark above
-marked : (t : Tables) (xs : List Item) → (list_any (has_property t PlainMark) (drop 1 (characters xs)) || (not (passes_at is_above (characters xs) 0) && list_any (has_property t SaraAm) (drop 1 (characters xs)))) ≡ true → IsMarkedText xs
+-- characters have a mark that stays after the first one, or such a vowel after a first one that is no mark above
+abbrev are_marked : Tables → List ℕ → Bool
+are_marked t vs = list_any (has_property t PlainMark) (drop 1 vs) || (not (passes_at is_above vs 0) && list_any (has_property t SaraAm) (drop 1 vs))
+
+marked : (t : Tables) (xs : List Item) → are_marked t (characters xs) ≡ true → IsMarkedText xs
 marked t [] h = cc
 marked t (x ∷ xs) h = elim (either_true (list_any (has_property t PlainMark) (characters xs)) (not (is_above x.number) && list_any (has_property t SaraAm) (characters xs)) h) [
   | inl plain ↦ inl (plain_marks_in t xs ∙ plain)
@@ -226,7 +229,7 @@ splits_as_tables shaper plan p b us at same h = by_shaper shaper same (both_true
 
 module _ (tones : TonesAreMarks) (nearest : NearestContextsShow) (keeps : TablesKeepTypes) (plan : hb_script_plan_t ⊤) (p p1 p2 : Shaping) (b : BreakPremises) (us : List ℕ) (at : ℕ) (whole earlier later : Sides)
     (sound : HaveNoFault p.tables) (tested : AreTested p.tables p.font b) (line : p.direction ≡ plan.direction) (inside : is_inside us at ≡ true) (lawful : b.is_lawful ≡ true) (texts : AreTextsAt us at earlier later) where
-  t : Tables
+  abbrev t : Tables
   t = p.tables
 
   -- what holds of the characters of the pieces holds of their items
@@ -293,18 +296,15 @@ module _ (tones : TonesAreMarks) (nearest : NearestContextsShow) (keeps : Tables
         forms = keep_private_marks t sound (tested.private_marks.0 first.0);
       }
     where
-      tests : List ℕ → Bool
-      tests vs = list_any (has_property t PlainMark) (drop 1 vs) || (not (passes_at is_above vs 0) && list_any (has_property t SaraAm) (drop 1 vs))
-
-      early_tests : is_marked_before us (text_marks t us) at ≡ true → tests (characters (items_of earlier)) ≡ true
+      early_tests : is_marked_before us (text_marks t us) at ≡ true → are_marked t (characters (items_of earlier)) ≡ true
       early_tests e =
-          ap tests texts.early ∙ ap (λ c. c || (not (passes_at is_above (take at us) 0) && list_any (has_property t SaraAm) (drop 1 (take at us)))) (before_is (has_property t PlainMark) us at)
+          ap (are_marked t) texts.early ∙ ap (λ c. c || (not (passes_at is_above (take at us) 0) && list_any (has_property t SaraAm) (drop 1 (take at us)))) (before_is (has_property t PlainMark) us at)
           ∙ ap (λ c. is_before (occurrences (has_property t PlainMark) us) at || (not c && list_any (has_property t SaraAm) (drop 1 (take at us)))) (first_before is_above us at (inside_is us at inside).0)
           ∙ ap (λ c. is_before (occurrences (has_property t PlainMark) us) at || (not (passes_at is_above us 0) && c)) (before_is (has_property t SaraAm) us at) ∙ e
 
-      late_tests : is_marked_after us (text_marks t us) at ≡ true → tests (characters (items_of later)) ≡ true
+      late_tests : is_marked_after us (text_marks t us) at ≡ true → are_marked t (characters (items_of later)) ≡ true
       late_tests e =
-          ap tests texts.late ∙ ap (λ c. c || (not (passes_at is_above (drop at us) 0) && list_any (has_property t SaraAm) (drop 1 (drop at us)))) (after_is (has_property t PlainMark) us at)
+          ap (are_marked t) texts.late ∙ ap (λ c. c || (not (passes_at is_above (drop at us) 0) && list_any (has_property t SaraAm) (drop 1 (drop at us)))) (after_is (has_property t PlainMark) us at)
           ∙ ap (λ c. is_after (occurrences (has_property t PlainMark) us) at || (not c && list_any (has_property t SaraAm) (drop 1 (drop at us)))) (first_from is_above us at)
           ∙ ap (λ c. is_after (occurrences (has_property t PlainMark) us) at || (not (passes_at is_above us at) && c)) (after_is (has_property t SaraAm) us at) ∙ e
 

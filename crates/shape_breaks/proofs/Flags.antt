@@ -41,13 +41,10 @@ not_by_false false e = refl
 pub safe_decides : (c : ℕ) (r : Sides) → IsTrue (has_safe_glyph c (all_glyphs r)) ↔ MayBeCutAt c (state_of r)
 safe_decides c r = (is_safe, is_tested)
   where
-    gs : List hb_glyph_info_t
-    gs = all_glyphs r
-
-    is_safe : has_safe_glyph c gs ≡ true → MayBeCutAt c (state_of r)
+    is_safe : has_safe_glyph c (all_glyphs r) ≡ true → MayBeCutAt c (state_of r)
     is_safe h =
-        let two = both_true (list_any (is_of c) gs) (not (list_any (is_unsafe_of c) gs)) h in
-        record { there = has_read c gs ∙ two.0; safe = flagged_read c gs ∙ false_by_not (list_any (is_unsafe_of c) gs) two.1 }
+        let two = both_true (list_any (is_of c) (all_glyphs r)) (not (list_any (is_unsafe_of c) (all_glyphs r))) h in
+        record { there = has_read c (all_glyphs r) ∙ two.0; safe = flagged_read c (all_glyphs r) ∙ false_by_not (list_any (is_unsafe_of c) (all_glyphs r)) two.1 }
 
-    is_tested : MayBeCutAt c (state_of r) → has_safe_glyph c gs ≡ true
-    is_tested may = and_true (list_any (is_of c) gs) (not (list_any (is_unsafe_of c) gs)) (sym (has_read c gs) ∙ may.there) (not_by_false (list_any (is_unsafe_of c) gs) (sym (flagged_read c gs) ∙ may.safe))
+    is_tested : MayBeCutAt c (state_of r) → has_safe_glyph c (all_glyphs r) ≡ true
+    is_tested may = and_true (list_any (is_of c) (all_glyphs r)) (not (list_any (is_unsafe_of c) (all_glyphs r))) (sym (has_read c (all_glyphs r)) ∙ may.there) (not_by_false (list_any (is_unsafe_of c) (all_glyphs r)) (sym (flagged_read c (all_glyphs r)) ∙ may.safe))

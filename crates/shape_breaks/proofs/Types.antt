@@ -91,24 +91,17 @@ quiet_by false b h e = h
 
 order_ends : (t : Tables) (run us : List ℕ) → KeepOrdered t → All (Quiet t) run → ends t (order_after (class_of t) run us) ≡ ends_joined (ends t run) (ends t us)
 order_ends t run [] keeps h = run_ends t run h ∙ sym (joined_none (ends t run))
-order_ends t run (u ∷ us) keeps h = by_test (class_of t u == 0) refl
+order_ends t run (u ∷ us) keeps h = by_test (class_of t u == 0) refl (order_ends t [] us keeps (All-nil (Quiet t))) (λ k. order_ends t (run ++ u ∷ []) us keeps k)
   where
-    class : ℕ → ℕ
-    class = class_of t
-
-    starter : ends t (run_order class run ++ u ∷ order_after class [] us) ≡ ends_joined (ends t run) (ends t (u ∷ us))
-    starter =
-        ends_many t (run_order class run) (u ∷ order_after class [] us) ∙ ap (λ p. ends_joined p (ends t (u ∷ order_after class [] us))) (run_ends t run h)
-        ∙ ap (λ p. ends_joined (ends t run) (ends_joined (one t u) p)) (order_ends t [] us keeps (All-nil (Quiet t)))
-
-    further : Quiet t u → ends t (order_after class (run ++ u ∷ []) us) ≡ ends_joined (ends t run) (ends t (u ∷ us))
-    further quiet =
-        order_ends t (run ++ u ∷ []) us keeps (All-append (Quiet t) run (u ∷ []) h (All-cons (Quiet t) u [] quiet (All-nil (Quiet t))))
+    by_test : (b : Bool) → (class_of t u == 0) ≡ b → ends t (order_after (class_of t) [] us) ≡ ends t us → (All (Quiet t) (run ++ u ∷ []) → ends t (order_after (class_of t) (run ++ u ∷ []) us) ≡ ends_joined (ends t (run ++ u ∷ [])) (ends t us))
+        → ends t (if b then run_order (class_of t) run ++ u ∷ order_after (class_of t) [] us else order_after (class_of t) (run ++ u ∷ []) us) ≡ ends_joined (ends t run) (ends t (u ∷ us))
+    by_test true e next longer =
+        ends_many t (run_order (class_of t) run) (u ∷ order_after (class_of t) [] us) ∙ ap (λ p. ends_joined p (ends t (u ∷ order_after (class_of t) [] us))) (run_ends t run h)
+        ∙ ap (λ p. ends_joined (ends t run) (ends_joined (one t u) p)) next
+    by_test false e next longer =
+        let quiet : Quiet t u = quiet_by (class_of t u == 0) (joins_nothing (type_of_character t u)) (keeps u) e in
+        longer (All-append (Quiet t) run (u ∷ []) h (All-cons (Quiet t) u [] quiet (All-nil (Quiet t))))
         ∙ ap (λ p. ends_joined p (ends t us)) (ends_many t run (u ∷ []) ∙ ap (ends_joined (ends t run)) (ends_alone t u)) ∙ joined_assoc (ends t run) (one t u) (ends t us)
-
-    by_test : (b : Bool) → (class_of t u == 0) ≡ b → ends t (if b then run_order class run ++ u ∷ order_after class [] us else order_after class (run ++ u ∷ []) us) ≡ ends_joined (ends t run) (ends t (u ∷ us))
-    by_test true e = starter
-    by_test false e = further (quiet_by (class_of t u == 0) (joins_nothing (type_of_character t u)) (keeps u) e)
 
 -- ---- compositions
 
