@@ -71,8 +71,8 @@ broken law keep_marks keep_types nearest tones font tables tags spans features p
     let p1 = by_text font tables tags spans features earlier in
     let p2 = by_text font tables tags spans features later in
     let is : may_be_broken b shaper q.direction q.script us (text_marks tables us) at ≡ true =
-        subst (λ (s : hb_ot_any_shaper_t). may_be_broken b s q.direction q.script us (text_marks tables us) at ≡ true) of.shaper
-        (subst (λ (r : hb_script_plan_t ⊤). may_be_broken b plan.shaper r.direction r.script us (text_marks tables us) at ≡ true) of.script_plan may) in
+    subst (λ (s : hb_ot_any_shaper_t). may_be_broken b s q.direction q.script us (text_marks tables us) at ≡ true) of.shaper
+    (subst (λ (r : hb_script_plan_t ⊤). may_be_broken b plan.shaper r.direction r.script us (text_marks tables us) at ≡ true) of.script_plan may) in
     let own : ArePieces shaper us at p p1 p2 whole earlier later = λ e. pieces (of.shaper ∙ e) in
     law font tables tags spans features c whole earlier later result first second cut one
     (may_be_cut tones nearest keep_marks keep_types shaper q p p1 p2 b us at whole earlier later refl refl sound tested is texts own)

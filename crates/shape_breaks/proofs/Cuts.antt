@@ -173,7 +173,7 @@ begins : (xs : List Item) → passes_at is_plain_beginning (characters xs) 0 ≡
 begins [] h = tt
 begins (x ∷ xs) h none =
     let plain : (is_above x.number || (nat_le 0x0E38 x.number && nat_le x.number 0x0E3A)) ≡ false =
-        false_by_not (is_above x.number || (nat_le 0x0E38 x.number && nat_le x.number 0x0E3A)) (sym (ap (λ b. b || not (is_above x.number || (nat_le 0x0E38 x.number && nat_le x.number 0x0E3A))) none) ∙ h) in
+    false_by_not (is_above x.number || (nat_le 0x0E38 x.number && nat_le x.number 0x0E3A)) (sym (ap (λ b. b || not (is_above x.number || (nat_le 0x0E38 x.number && nat_le x.number 0x0E3A))) none) ∙ h) in
     let two = neither_true (is_above x.number) (nat_le 0x0E38 x.number && nat_le x.number 0x0E3A) plain in
     (not_taken x.number two.0 two.1, two.0)
 
@@ -255,8 +255,8 @@ module _ (tones : TonesAreMarks) (nearest : NearestContextsShow) (keeps : Tables
         composes = λ c d u e. sym (ap (λ (r : ShaperRules). r.composes t c d) rules) ∙ e;
       } in
       let shown : CharactersShow t p.settings.pre_context p.settings.post_context p1.settings.post_context p2.settings.pre_context (take at us) (drop at us) =
-          nearest t 5 p.settings.pre_context p.settings.post_context p1.settings.post_context p2.settings.pre_context (take at us) (drop at us)
-          (record { before = pieces.before; after = pieces.after; letter = inl (letter_after t us at second.0) }) in
+      nearest t 5 p.settings.pre_context p.settings.post_context p1.settings.post_context p2.settings.pre_context (take at us) (drop at us)
+      (record { before = pieces.before; after = pieces.after; letter = inl (letter_after t us at second.0) }) in
       record {
         marks = marks_may first.1;
         shown = of_pieces (λ vs ws. CharactersShow t p.settings.pre_context p.settings.post_context p1.settings.post_context p2.settings.pre_context vs ws) shown;
@@ -284,8 +284,10 @@ module _ (tones : TonesAreMarks) (nearest : NearestContextsShow) (keeps : Tables
                 let both = both_true (is_nowhere m.marks) (is_nowhere m.vowels) e in
                 let marks = nowhere_is (has_property t Mark) us at both.0 in
                 let vowels = nowhere_is (has_property t SaraAm) us at both.1 in
-                inr (unmarked_text t (items_of earlier) (ap (list_any (has_property t Mark)) texts.early ∙ marks.0) (ap (list_any (has_property t SaraAm)) texts.early ∙ vowels.0),
-                unmarked_text t (items_of later) (ap (list_any (has_property t Mark)) texts.late ∙ marks.1) (ap (list_any (has_property t SaraAm)) texts.late ∙ vowels.1))
+                inr (
+                  unmarked_text t (items_of earlier) (ap (list_any (has_property t Mark)) texts.early ∙ marks.0) (ap (list_any (has_property t SaraAm)) texts.early ∙ vowels.0),
+                  unmarked_text t (items_of later) (ap (list_any (has_property t Mark)) texts.late ∙ marks.1) (ap (list_any (has_property t SaraAm)) texts.late ∙ vowels.1),
+                )
             | inr e ↦
                 let both = both_true (is_marked_before us m at) (is_marked_after us m at) e in
                 inl (marked t (items_of earlier) (early_tests both.0), marked t (items_of later) (late_tests both.1))

@@ -78,9 +78,9 @@ selector_scalar : (u : ℕ) → is_variation_selector_character u ≡ true → s
 selector_scalar u e = elim (either_true (is_in_range u (0xFE00, 0xFE0F)) (is_in_range u (0xE0100, 0xE01EF) || false) e) [
   | inl one ↦ in_high_range u 0xFE00 0xFE0F (omega arith) (omega arith) one
   | inr rest ↦ elim (either_true (is_in_range u (0xE0100, 0xE01EF)) false rest) [
-      | inl one ↦ in_high_range u 0xE0100 0xE01EF (omega arith) (omega arith) one
-      | inr none ↦ cc
-    ]
+    | inl one ↦ in_high_range u 0xE0100 0xE01EF (omega arith) (omega arith) one
+    | inr none ↦ cc
+  ]
 ]
 
 zero_first : (n : ℕ) (b : Bool) → n ≡ 0 → (n == 0 || b) ≡ true

@@ -137,7 +137,7 @@ module _ (law : SafeBreaks) (keeps : TextsKeepNumbers) (s : Setup) (falls : Bool
       let below : (n : ℕ) → Has (numbers early.origins) n → n < c = λ n has. cut.texts.broken.below n (brought q.piece n has) in
       let above : All (λ (r : CutPiece s). c ≤ r.cut) qs = cuts_above s c rest last qs cuts.1.1 (λ n has. cut.texts.broken.above n has) in
       let later : All (λ (r : CutPiece s). MayBeCutAt r.cut left) qs =
-          may_each s (λ e. MayBeCutAt e (shown whole)) (λ e. MayBeCutAt e left) c qs (λ e le h. rest_may falls c e (shown whole) early left both below le h) above (All-tail (λ (r : CutPiece s). MayBeCutAt r.cut (shown whole)) q qs may) in
+      may_each s (λ e. MayBeCutAt e (shown whole)) (λ e. MayBeCutAt e left) c qs (λ e le h. rest_may falls c e (shown whole) early left both below le h) above (All-tail (λ (r : CutPiece s). MayBeCutAt r.cut (shown whole)) q qs may) in
       let others = all_shown rest last qs cuts.1.1 later (order_standing falls (numbers early.origins) (numbers left.origins) (subst (IsInOrder falls) both.clusters order)) in
       record {
         glyphs = both.glyphs ∙ ap (as_they_stand falls (glyph_numbers early.view.items)) others.glyphs;

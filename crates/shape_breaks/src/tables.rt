@@ -98,9 +98,7 @@ fn halves_keep_marks(u: char, halves: Option<(char, char)>) -> bool
 {
     match halves {
         Some((first, second)) => {
-            (is_mark(u) || !is_mark(first))
-                && first != GRAPHEME_JOINER
-                && second != GRAPHEME_JOINER
+            (is_mark(u) || !is_mark(first)) && first != GRAPHEME_JOINER && second != GRAPHEME_JOINER
         }
         None => true,
     }

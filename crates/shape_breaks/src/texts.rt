@@ -53,10 +53,10 @@ impl TextMarks {
         ensures { result ≡ text_marks tables.now text.now }
     {
         TextMarks {
-            marks: occurrences(tables, text, Property::Mark),
-            plain_marks: occurrences(tables, text, Property::PlainMark),
-            vowels: occurrences(tables, text, Property::SaraAm),
-            letters: occurrences(tables, text, Property::Letter),
+            marks: occurrences_of(tables, text, Property::Mark),
+            plain_marks: occurrences_of(tables, text, Property::PlainMark),
+            vowels: occurrences_of(tables, text, Property::SaraAm),
+            letters: occurrences_of(tables, text, Property::Letter),
         }
     }
 }
@@ -100,7 +100,7 @@ impl Occurrences {
     }
 }
 
-fn occurrences(tables: &UnicodeTables, text: &[char], property: Property) -> Occurrences
+fn occurrences_of(tables: &UnicodeTables, text: &[char], property: Property) -> Occurrences
     ensures { result ≡ occurrences (has_property tables.now property) text.now }
 {
     Occurrences {

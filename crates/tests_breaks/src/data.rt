@@ -1,8 +1,8 @@
 //! Tables and fonts of the tests.
+use buffer_tags::language_table::LanguageTable;
 use buffer_unicode_tables::UnicodeTables;
 use layout_face::Face;
 use script_categories::SyllableTable;
-use buffer_tags::language_table::LanguageTable;
 use shape_pipeline::hb_shape_data_t;
 use shell_face_json::read_face_text;
 use shell_readers::tables::{TextTables, tables_in};

@@ -103,7 +103,10 @@ fn tables_that_ship(rt: HostRuntime) -> Result<(), Fail> {
     match default_tables(rt.alloc()) {
         Ok(tables) => {
             let premises = premises_of(rt.alloc(), &tables.characters, FONT)?;
-            assert!(rt; premises.is_lawful && kept(premises) == [true, true, true], "kept");
+            assert!(rt;
+                premises.is_lawful && kept(premises) == [true, true, true],
+                "kept"
+            );
         }
         Err(_) => assert!(rt; false, "tables"),
     }
