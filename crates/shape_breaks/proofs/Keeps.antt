@@ -1,7 +1,7 @@
 -- What stands for a character by a shaper keeps marks and joining types, where tables and font do.
 use Rattle.std.proofs.Common.{ℕ, ◌≡◌, ◌≤◌, ◌<◌, ◌==◌, ◌&&◌, ◌||◌, nat_le, nat_lt, inl, inr, if◌then◌else◌, Bool, true, false, Option, None, Some, arith, refl, sym, ap, subst, ◌∙◌}
 use Rattle.std.proofs.lemmas.Bool.Decides.{nat_tests}
-use lib.Utf8.{low_scalar, scalar}
+use lib.Utf8.{scalar}
 use Rattle.buffer_facts.proofs.Truth.{both_true, either_true}
 use Rattle.buffer_unicode.specs.Character.{is_in_range, is_variation_selector_character}
 use Rattle.buffer_unicode_tables.specs.Lawful.{IsLawful}

@@ -3,23 +3,23 @@ use Rattle.std.proofs.Common.{ℕ, ◌≡◌, ◌≢◌, ◌≤◌, ◌<◌, ◌
 use Rattle.std.specs.Prelude.{find, option_map}
 use Rattle.std.specs.List.{list_all}
 use Rattle.std.specs.Option.{option_map_or, option_or}
-use Rattle.std.proofs.lemmas.Bool.{and_parts}
 use Rattle.std.proofs.lemmas.Bool.Decides.{nat_tests}
 use lib.Utf8.{scalar}
 use Rattle.buffer_facts.proofs.Numbers.{test_of_apart}
-use Rattle.buffer_facts.proofs.Truth.{both_true, false_by_not, lacks_first}
+use Rattle.buffer_facts.proofs.Truth.{and_true, both_true, false_by_not, lacks_first}
 use Rattle.buffer_unicode.specs.Keys.{follows, row_fault}
 use Rattle.buffer_unicode.specs.Numbers.{is_scalar}
 use Rattle.buffer_unicode.specs.Rows.{is_character_class_in_range, is_character_range_in_range, is_counterpart_in_range, is_indic_row_in_range, is_joining_row_in_range, is_pair_in_range, is_split_in_range, is_thai_row_in_range, is_universal_row_in_range}
 use Rattle.buffer_unicode.specs.declared.fault.TablesFault.{TablesFault}
 use Rattle.buffer_unicode.specs.declared.rows.CharacterClass.{CharacterClass}
 use Rattle.buffer_unicode.specs.declared.rows.Counterpart.{Counterpart}
+use Rattle.buffer_unicode.specs.declared.rows.Split.{Split}
 use Rattle.buffer_unicode.specs.declared.rows.ThaiRow.{ThaiRow}
-use Rattle.buffer_unicode_tables.specs.Tables.{Tables, class_of, counterpart_in, fault_in, first_row_fault, split_of, thai_of}
+use Rattle.buffer_unicode_tables.specs.Tables.{Tables, are_of_characters, class_of, counterpart_in, fault_in, split_of, thai_of}
+use Rattle.buffer_unicode_tables.proofs.Characters.{characters_split}
 use Rattle.layout_face.specs.Glyphs.{row_of_characters, variation_glyph}
 use Rattle.layout_face.specs.declared.parts.FaceParts.{FaceParts}
 use Rattle.layout_face.specs.declared.parts.VariationRow.{VariationRow}
-use Rattle.shape_premises.proofs.Checked.{checked_tables_split_characters}
 use Rattle.shape_breaks.specs.Tables.{HaveNoFault, is_of_other}
 
 -- ---- rows
@@ -66,6 +66,7 @@ counterparts_lack u rows sound none =
 
 -- the faults of the tables that are asked for
 record Sound (t : Tables) : Type 0 where
+  splits : fault_in is_split_in_range (λ r. r.whole) t.splits ≡ None
   classes : fault_in is_character_class_in_range (λ r. r.character) t.classes ≡ None
   mirrored : fault_in is_counterpart_in_range (λ r. r.character) t.mirrored ≡ None
   vertical : fault_in is_counterpart_in_range (λ r. r.character) t.vertical ≡ None
@@ -82,10 +83,17 @@ sound_is t h =
     let joining = both_none (fault_in is_joining_row_in_range (λ r. r.character) t.joining) _ pictographic.1 in
     let indic = both_none (fault_in is_indic_row_in_range (λ r. r.character) t.indic) _ joining.1 in
     let universal = both_none (fault_in is_universal_row_in_range (λ r. r.character) t.universal) _ indic.1 in
-    record { classes = classes.0; mirrored = mirrored.0; vertical = vertical.0; thai = universal.1 }
+    record { splits = splits.0; classes = classes.0; mirrored = mirrored.0; vertical = vertical.0; thai = universal.1 }
+
+splits_of_characters : (before : Option Split) (splits : List Split) → row_fault is_split_in_range (λ _. 0) (λ r. r.whole) before splits ≡ None → are_of_characters splits ≡ true
+splits_of_characters before [] h = refl
+splits_of_characters before (r ∷ rs) h =
+    let two = row_in_range is_split_in_range (λ _. 0) (λ r. r.whole) before r rs h in
+    let whole = scalar_is r.whole (both_true (is_scalar r.whole) (is_scalar r.first) (both_true (is_scalar r.whole && is_scalar r.first) (is_scalar r.second) two.0).0).0 in
+    and_true (scalar r.whole) (are_of_characters rs) whole (splits_of_characters (Some r) rs two.1)
 
 pub no_split : (t : Tables) (u : ℕ) → HaveNoFault t → scalar u ≡ false → split_of t u ≡ None
-no_split t u h none = checked_tables_split_characters t h u none
+no_split t u h none = characters_split t (splits_of_characters None t.splits (sound_is t h).splits) u none
 
 pub no_mirrored : (t : Tables) (u : ℕ) → HaveNoFault t → scalar u ≡ false → counterpart_in t.mirrored u ≡ None
 no_mirrored t u h none = counterparts_lack u t.mirrored (sound_is t h).mirrored none
