@@ -7,3 +7,4 @@ pub mod Flags
 pub mod Cuts
 pub mod Broken
 pub mod Many
+pub mod Alike

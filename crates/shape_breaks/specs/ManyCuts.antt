@@ -1,15 +1,15 @@
 -- A text that is cut before many clusters at once.
-use Rattle.std.specs.Prelude.{ℕ, ◌≡◌, Bool, List, [], ◌∷◌, ◌++◌, map}
-use Rattle.std.specs.List.{All}
+use Rattle.std.specs.Prelude.{ℕ, ◌≡◌, ◌⊎◌, Bool, true, false, List, [], ◌∷◌, drop, map}
+use Rattle.std.specs.List.{All, flat_map, list_any}
 use Rattle.buffer_common.specs.declared.tag.Tag.{Tag}
 use Rattle.buffer_tags.specs.declared.feature.Feature.{Feature}
-use Rattle.buffer_glyphs.specs.Items.{Position}
 use Rattle.buffer_glyphs.specs.Order.{IsInOrder}
-use Rattle.buffer_glyphs.specs.Origins.{Origin, numbers}
+use Rattle.buffer_glyphs.specs.Origins.{numbers}
 use Rattle.buffer_unicode_tables.specs.Lawful.{AsciiHasNoMarks}
 use Rattle.buffer_unicode_tables.specs.Tables.{Tables}
 use Rattle.buffer_core.specs.Readings.{BufferState}
 use Rattle.buffer_core.specs.Sides.{Sides, state_of}
+use Rattle.buffer_properties.specs.Properties.{is_mark_character}
 use Rattle.buffer_parts.specs.Breaks.Concat.{SameButConcat}
 use Rattle.buffer_parts.specs.Breaks.Fragments.{as_they_stand}
 use Rattle.layout_face.specs.declared.parts.FaceParts.{FaceParts}
@@ -21,7 +21,7 @@ use Rattle.shape_pipeline.specs.Results.{IsResultOf, IsShapedBy}
 use Rattle.shape_pipeline.specs.Shaped.{by_text, language_tags}
 use Rattle.shape_pipeline.specs.Shaping.{Shaping}
 use Rattle.shape_laws.specs.Breaks.ByShaper.{MayBeCutBy}
-use Rattle.shape_laws.specs.Breaks.Characters.{KeepsMarks}
+use Rattle.shape_laws.specs.Breaks.Characters.{HaveLikeMarks, KeepsMarks}
 use Rattle.shape_laws.specs.Breaks.InLine.{MayBeCutAt, glyph_numbers}
 use Rattle.shape_laws.specs.Breaks.SafeTexts.{AreCut, AreOfOneLanguage, HaveEnough}
 
@@ -91,3 +91,14 @@ pub record ShowsAll (falls : Bool) (whole : BufferState) (pieces : List BufferSt
 abbrev pub TextsShowAllPieces : Type 0
 TextsShowAllPieces = (s : Setup) (falls : Bool) (whole last : ShapedText s) (qs : List (CutPiece s)) → AsciiHasNoMarks → AreCutInto s whole qs last
     → All (λ (q : CutPiece s). MayBeCutAt q.cut (state_of whole.result)) qs → IsInOrder falls (numbers (state_of whole.result).origins) → ShowsAll falls (state_of whole.result) (piece_results qs) (state_of last.result)
+
+-- ---- marks of pieces
+
+-- each of some pieces has a mark after its first character, or none of them has a mark
+abbrev pub AreMarkedAlike : List (List ℕ) → Type 0
+AreMarkedAlike ps = All (λ us. list_any is_mark_character (drop 1 us) ≡ true) ps ⊎ All (λ us. list_any is_mark_character us ≡ false) ps
+
+-- law: the first of such pieces and all that is left of the text have marks alike, so that each cut of what is left is one
+-- that the law allows as far as marks are asked for
+abbrev pub AlikePiecesHaveLikeMarks : Type 0
+AlikePiecesHaveLikeMarks = (us vs : List ℕ) (ps : List (List ℕ)) → AreMarkedAlike (us ∷ vs ∷ ps) → HaveLikeMarks us (flat_map (λ ws. ws) (vs ∷ ps))

@@ -1,6 +1,6 @@
 //! What holds of texts that are broken where the tests allow it. All are laws of our own, which rustybuzz has not.
 ghost use Rattle.shape_breaks.specs.Laws.{BrokenTextsShowBoth, BrokenTextsShowBothByPlans, TablesKeepMarks, TablesKeepTypes};
-ghost use Rattle.shape_breaks.specs.ManyCuts.{TextsShowAllPieces};
+ghost use Rattle.shape_breaks.specs.ManyCuts.{AlikePiecesHaveLikeMarks, TextsShowAllPieces};
 
 use shape_laws::breaks::break_laws::{law_planned_safe_breaks, law_safe_breaks};
 use shape_laws::breaks::chain_laws::{law_nearest_contexts_show, law_tones_are_marks};
@@ -45,3 +45,10 @@ pub fn law_texts_show_all_pieces()
     law_safe_breaks();
     law_texts_keep_numbers();
 }
+
+/// Pieces that all have a mark after their first character, or of which none has a mark, are cut alike, each from what is
+/// left.
+#[tactic(auto, using(crate::proofs::Alike::alike_pieces))]
+pub fn law_alike_pieces_have_like_marks()
+    ensures { AlikePiecesHaveLikeMarks }
+{}
