@@ -1,5 +1,5 @@
 -- Where characters with a property are in a text, and in the two pieces that it is cut into.
-use Rattle.std.proofs.Common.{ℕ, zero, suc, ◌≡◌, ◌<◌, ◌+◌, ◌-◌, ◌==◌, ◌&&◌, ◌||◌, not, nat_le, nat_lt, if◌then◌else◌, Bool, true, false, List, [], ◌∷◌, ◌++◌, length, take, drop, get_or, Option, None, Some, arith, refl, sym, ap, ◌∙◌}
+use Rattle.std.proofs.Common.{ℕ, zero, suc, ◌≡◌, ◌≤◌, ◌<◌, ◌+◌, ◌-◌, ◌==◌, ◌&&◌, ◌||◌, not, nat_le, nat_lt, if◌then◌else◌, Bool, true, false, List, [], ◌∷◌, ◌++◌, length, take, drop, drop-cons, get_or, Option, None, Some, arith, refl, sym, ap, ◌∙◌}
 use Rattle.std.specs.Prelude.{is_none, is_some, option_map, slice_get}
 use Rattle.std.specs.List.{list_any}
 use Rattle.std.specs.Option.{option_map_or, option_or}
@@ -149,3 +149,19 @@ last_next p us i u last e = ap (λ vs. option_or (moved i (last_index p vs)) las
     by_last None true = refl
     by_last None false = refl
     by_last (Some n) b = ap Some (omega arith)
+
+ended : (i : ℕ) (us : List ℕ) → length us ≤ i → drop i us ≡ []
+ended zero [] le = refl
+ended zero (u ∷ us) le = absurd (omega (arith, le))
+ended (suc n) [] le = refl
+ended (suc n) (u ∷ us) le = ended n us (omega (arith, le))
+
+pub first_ends : (p : ℕ → Bool) (us : List ℕ) (i : ℕ) → length us ≤ i → moved i (first_index p (drop i us)) ≡ None
+first_ends p us i le = ap (λ vs. moved i (first_index p vs)) (ended i us le)
+
+pub last_ends : (p : ℕ → Bool) (us : List ℕ) (i : ℕ) (last : Option ℕ) → length us ≤ i → option_or (moved i (last_index p (drop i us))) last ≡ last
+last_ends p us i last le = ap (λ vs. option_or (moved i (last_index p vs)) last) (ended i us le)
+
+-- a text from a character of its own on
+pub drop_here : (us : List ℕ) (i : ℕ) → i < length us → drop i us ≡ get_or us i 0 ∷ drop (i + 1) us
+drop_here us i less = let next : suc i ≡ i + 1 = omega arith in drop-cons us i 0 less ∙ ap (λ n. get_or us i 0 ∷ drop n us) next

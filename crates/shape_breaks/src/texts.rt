@@ -1,5 +1,5 @@
 //! Where a text has marks and letters, found once, so that each of its cuts is tested at once.
-ghost use Rattle.std.specs.Prelude.{◌≡◌};
+ghost use Rattle.std.specs.Prelude.{◌≡◌, Some, if◌then◌else◌};
 ghost use Rattle.script_joining.specs.Joining.{is_letter};
 ghost use Rattle.script_joining.specs.Types.{type_of_character};
 ghost use Rattle.buffer_properties.specs.Properties.{is_mark_character};
@@ -127,11 +127,16 @@ fn last_index(tables: &UnicodeTables, text: &[char], property: Property) -> Opti
 {
     let mut last = None;
     for i in 0..text.len() {
-        if has_property(tables, property, text[i]) {
-            last = Some(i);
-        }
+        last = index_if(has_property(tables, property, text[i]), i, last);
     }
     last
+}
+
+/// An index where a test holds, else another one.
+fn index_if(holds: bool, index: usize, other: Option<usize>) -> Option<usize>
+    ensures { result ≡ (if holds then Some index else other) }
+{
+    if holds { Some(index) } else { other }
 }
 
 fn has_property(tables: &UnicodeTables, property: Property, u: char) -> bool
