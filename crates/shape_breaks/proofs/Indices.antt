@@ -4,6 +4,7 @@ use Rattle.std.specs.Prelude.{is_none, is_some, option_map, slice_get}
 use Rattle.std.specs.List.{list_any}
 use Rattle.std.specs.Option.{option_map_or, option_or}
 use Rattle.std.proofs.lemmas.Bool.Decides.{nat_tests}
+use Rattle.std.proofs.lemmas.Grind.{common_steps}
 use Rattle.std.proofs.lemmas.List.{drop-drop, take-append-drop}
 use Rattle.std.proofs.lemmas.List.Folds.{list_any-append}
 use Rattle.buffer_facts.proofs.Truth.{both_true, neither_true}
@@ -21,15 +22,20 @@ below n o = option_map_or (λ i. nat_lt i n) o false
 abbrev pub above : ℕ → Option ℕ → Bool
 above n o = option_map_or (λ i. nat_le n i) o false
 
+same_tests : (a b : Bool) → (a ≡ true → b ≡ true) → (b ≡ true → a ≡ true) → a ≡ b
+same_tests true b f g = sym (f refl)
+same_tests false true f g = g refl
+same_tests false false f g = refl
+
 lt_suc : (i n : ℕ) → nat_lt (i + 1) (suc n) ≡ nat_lt i n
-lt_suc i n = grind (arith, nat_tests)
+lt_suc i n = same_tests (nat_lt (i + 1) (suc n)) (nat_lt i n) (λ e. grind (arith, nat_tests, e)) (λ e. grind (arith, nat_tests, e))
 
 le_suc : (n i : ℕ) → nat_le (suc n) (i + 1) ≡ nat_le n i
-le_suc n i = grind (arith, nat_tests)
+le_suc n i = same_tests (nat_le (suc n) (i + 1)) (nat_le n i) (λ e. grind (arith, nat_tests, e)) (λ e. grind (arith, nat_tests, e))
 
 below_none : (o : Option ℕ) → below 0 o ≡ false
 below_none None = refl
-below_none (Some i) = grind (arith, nat_tests)
+below_none (Some i) = grind (arith, nat_tests, common_steps)
 
 below_further : (n : ℕ) (o : Option ℕ) → below (suc n) (option_map (λ i. i + 1) o) ≡ below n o
 below_further n None = refl
@@ -77,7 +83,7 @@ before_is p (u ∷ us) zero = sym (below_none (option_map (λ i. i + 1) (first_i
 before_is p (u ∷ us) (suc n) = any_before p n us ∙ sym (below_further n (first_index p us))
 
 lt_is_le : (at i : ℕ) → nat_le (at + 1) i ≡ nat_lt at i
-lt_is_le at i = grind (arith, nat_tests)
+lt_is_le at i = same_tests (nat_le (at + 1) i) (nat_lt at i) (λ e. grind (arith, nat_tests, e)) (λ e. grind (arith, nat_tests, e))
 
 pub after_is : (p : ℕ → Bool) (us : List ℕ) (at : ℕ) → list_any p (drop 1 (drop at us)) ≡ is_after (occurrences p us) at
 after_is p us at = ap (list_any p) (drop-drop 1 at us) ∙ any_from p (at + 1) us ∙ by_last (last_index p us)
@@ -108,17 +114,13 @@ joiner_last before (suc n) (u ∷ us) less = joiner_last (u == 0x34F) n us (omeg
 
 pub joiner_before : (us : List ℕ) (at : ℕ) → 0 < at → at < length us → ends_with_joiner false (take at us) ≡ follows_joiner us at
 joiner_before us zero some less = absurd (omega (arith, some))
-joiner_before us (suc n) some less = joiner_last false n us (omega (arith, less))
+joiner_before us (suc n) some less = let before : n ≡ suc n - 1 = omega arith in joiner_last false n us (omega (arith, less)) ∙ ap (passes_at is_grapheme_joiner us) before
 
 -- ---- walks
 
 -- an index that many places further
 abbrev pub moved : ℕ → Option ℕ → Option ℕ
 moved n o = option_map (λ i. i + n) o
-
-moved_none : (o : Option ℕ) → moved 0 o ≡ o
-moved_none None = refl
-moved_none (Some i) = ap Some (omega arith)
 
 moved_further : (n : ℕ) (o : Option ℕ) → moved n (option_map (λ i. i + 1) o) ≡ moved (n + 1) o
 moved_further n None = refl
@@ -136,7 +138,9 @@ last_begins p us = by_last (last_index p us)
     by_last (Some i) = ap Some (omega arith)
 
 pub first_found : (p : ℕ → Bool) (us : List ℕ) (i u : ℕ) → drop i us ≡ u ∷ drop (i + 1) us → p u ≡ true → moved i (first_index p (drop i us)) ≡ Some i
-first_found p us i u e found = ap (λ vs. moved i (first_index p vs)) e ∙ ap (λ b. moved i (if b then Some 0 else option_map (λ n. n + 1) (first_index p (drop (i + 1) us)))) found
+first_found p us i u e found =
+    let none : 0 + i ≡ i = omega arith in
+    ap (λ vs. moved i (first_index p vs)) e ∙ ap (λ b. moved i (if b then Some 0 else option_map (λ n. n + 1) (first_index p (drop (i + 1) us)))) found ∙ ap Some none
 
 pub first_lacks : (p : ℕ → Bool) (us : List ℕ) (i u : ℕ) → drop i us ≡ u ∷ drop (i + 1) us → p u ≡ false → moved i (first_index p (drop i us)) ≡ moved (i + 1) (first_index p (drop (i + 1) us))
 first_lacks p us i u e lacks =
@@ -146,7 +150,7 @@ pub last_next : (p : ℕ → Bool) (us : List ℕ) (i u : ℕ) (last : Option �
 last_next p us i u last e = ap (λ vs. option_or (moved i (last_index p vs)) last) e ∙ by_last (last_index p (drop (i + 1) us)) (p u)
   where
     by_last : (o : Option ℕ) (b : Bool) → option_or (moved i (option_or (option_map (λ n. n + 1) o) (if b then Some 0 else None))) last ≡ option_or (moved (i + 1) o) (if b then Some i else last)
-    by_last None true = refl
+    by_last None true = ap Some (omega arith)
     by_last None false = refl
     by_last (Some n) b = ap Some (omega arith)
 

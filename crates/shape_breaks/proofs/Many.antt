@@ -125,7 +125,7 @@ module _ (law : SafeBreaks) (keeps : TextsKeepNumbers) (s : Setup) (falls : Bool
       (record { all = whole.shaped; early = earlier.shaped; late = later.shaped }) falls may order
 
   all_shown : (whole last : ShapedText s) (qs : List (CutPiece s)) → AreCutInto s whole qs last → All (λ (q : CutPiece s). MayBeCutAt q.cut (shown whole)) qs → IsInOrder falls (numbers (shown whole).origins)
-      → ShowsAll falls (shown whole) (piece_results qs) (shown last)
+      → ShowsAll falls (shown whole) (piece_results s qs) (shown last)
   all_shown whole last [] cuts may order = subst (λ (t : ShapedText s). ShowsAll falls (shown whole) [] (shown t)) cuts (record { glyphs = refl; positions = refl; clusters = refl; flags = same_self (shown whole).origins })
   all_shown whole last (q ∷ qs) cuts may order =
       let rest = cuts.0 in
@@ -143,8 +143,8 @@ module _ (law : SafeBreaks) (keeps : TextsKeepNumbers) (s : Setup) (falls : Bool
         glyphs = both.glyphs ∙ ap (as_they_stand falls (glyph_numbers early.view.items)) others.glyphs;
         positions = both.positions ∙ ap (as_they_stand falls early.view.positions) others.positions;
         clusters = both.clusters ∙ ap (as_they_stand falls (numbers early.origins)) others.clusters;
-        flags = same_then (shown whole).origins (as_they_stand falls early.origins left.origins) (standing falls (map (λ (r : BufferState). r.origins) (piece_results (q ∷ qs))) (shown last).origins) both.flags
-            (same_standing falls early.origins left.origins (standing falls (map (λ (r : BufferState). r.origins) (piece_results qs)) (shown last).origins) others.flags);
+        flags = same_then (shown whole).origins (as_they_stand falls early.origins left.origins) (standing falls (map (λ (r : BufferState). r.origins) (piece_results s (q ∷ qs))) (shown last).origins) both.flags
+            (same_standing falls early.origins left.origins (standing falls (map (λ (r : BufferState). r.origins) (piece_results s qs)) (shown last).origins) others.flags);
       }
 
 pub texts_show_all : SafeBreaks → TextsKeepNumbers → TextsShowAllPieces

@@ -48,11 +48,11 @@ KeepHalves t = (u : ℕ) → HalvesKeepType t (type_of_character t u) (split_of 
 expansion_ends : (t : Tables) (depth u : ℕ) → KeepHalves t → ends t (expansion_by_splits (split_of t) depth u) ≡ one t u
 unfolding expansion_by_splits
 expansion_ends t zero u keeps = ends_alone t u
-expansion_ends t (suc depth) u keeps = by_split (split_of t u) (keeps u)
+expansion_ends t (suc depth) u keeps = by_split (split_of t u) (keeps u) (λ a. expansion_ends t depth a keeps)
   where
-    by_split : (o : Option (ℕ × ℕ)) → HalvesKeepType t (type_of_character t u) o → ends t (by_halves (expansion_by_splits (split_of t) depth) u o) ≡ one t u
-    by_split None h = ends_alone t u
-    by_split (Some (a, b)) h = second_ends t u a b (expansion_by_splits (split_of t) depth a) h (expansion_ends t depth a keeps)
+    by_split : (o : Option (ℕ × ℕ)) → HalvesKeepType t (type_of_character t u) o → ((a : ℕ) → ends t (expansion_by_splits (split_of t) depth a) ≡ one t a) → ends t (by_halves (expansion_by_splits (split_of t) depth) u o) ≡ one t u
+    by_split None h first = ends_alone t u
+    by_split (Some (a, b)) h first = second_ends t u a b (expansion_by_splits (split_of t) depth a) h (first a)
 
 -- ---- canonical ordering
 

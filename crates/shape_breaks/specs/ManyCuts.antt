@@ -44,10 +44,6 @@ pub record ShapedText (s : Setup) : Type 0 where
   pub shaped : IsShapedBy (shaping_of s text) text result
   pub is : IsResultOf text result
 
--- the result of a text as pipeline stages know it
-abbrev pub result_of : {s : Setup} → ShapedText s → BufferState
-result_of t = state_of t.result
-
 -- a text is cut before cluster c into two, where the law of safe breaks speaks of it (`law_safe_breaks`)
 pub record IsCutAt (s : Setup) (c : ℕ) (whole earlier later : ShapedText s) : Type 0 where
   pub texts : AreCut c whole.text earlier.text later.text
@@ -73,8 +69,8 @@ standing falls [] last = last
 standing falls (xs ∷ xss) last = as_they_stand falls xs (standing falls xss last)
 
 -- the results of pieces
-abbrev pub piece_results : {s : Setup} → List (CutPiece s) → List BufferState
-piece_results qs = map (λ q. state_of q.piece.result) qs
+abbrev pub piece_results : (s : Setup) → List (CutPiece s) → List BufferState
+piece_results s qs = map (λ (q : CutPiece s). state_of q.piece.result) qs
 
 -- a shaped text shows pieces one after the other, and a last one, where clusters fall in the other order: the glyphs, the
 -- positions, the clusters, and the flags but for UNSAFE_TO_CONCAT
@@ -90,7 +86,7 @@ pub record ShowsAll (falls : Bool) (whole : BufferState) (pieces : List BufferSt
 -- to be normalized by, though at each of its ends the whole has marks on both sides
 abbrev pub TextsShowAllPieces : Type 0
 TextsShowAllPieces = (s : Setup) (falls : Bool) (whole last : ShapedText s) (qs : List (CutPiece s)) → AsciiHasNoMarks → AreCutInto s whole qs last
-    → All (λ (q : CutPiece s). MayBeCutAt q.cut (state_of whole.result)) qs → IsInOrder falls (numbers (state_of whole.result).origins) → ShowsAll falls (state_of whole.result) (piece_results qs) (state_of last.result)
+    → All (λ (q : CutPiece s). MayBeCutAt q.cut (state_of whole.result)) qs → IsInOrder falls (numbers (state_of whole.result).origins) → ShowsAll falls (state_of whole.result) (piece_results s qs) (state_of last.result)
 
 -- ---- marks of pieces
 
