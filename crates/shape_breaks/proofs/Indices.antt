@@ -43,10 +43,13 @@ below_further n (Some i) = lt_suc i n
 
 above_further : (n : ℕ) (o : Option ℕ) (b : Bool) → above (suc n) (option_or (option_map (λ i. i + 1) o) (if b then Some 0 else None)) ≡ above n o
 above_further n (Some i) b = le_suc n i
-above_further n None true = refl
+above_further n None true = grind (arith, nat_tests, common_steps)
 above_further n None false = refl
 
 -- ---- pieces of a text
+
+some_below : (n : ℕ) → nat_lt 0 (suc n) ≡ true
+some_below n = grind (arith, nat_tests)
 
 any_before : (p : ℕ → Bool) (n : ℕ) (us : List ℕ) → list_any p (take n us) ≡ below n (first_index p us)
 any_before p zero us = sym (below_none (first_index p us))
@@ -54,7 +57,7 @@ any_before p (suc n) [] = refl
 any_before p (suc n) (u ∷ us) = by_test (p u) (any_before p n us)
   where
     by_test : (b : Bool) → list_any p (take n us) ≡ below n (first_index p us) → (b || list_any p (take n us)) ≡ below (suc n) (if b then Some 0 else option_map (λ i. i + 1) (first_index p us))
-    by_test true e = refl
+    by_test true e = sym (some_below n)
     by_test false e = e ∙ sym (below_further n (first_index p us))
 
 any_at_all : (p : ℕ → Bool) (us : List ℕ) → list_any p us ≡ is_some (last_index p us)
@@ -69,7 +72,7 @@ any_at_all p (u ∷ us) = by_last (p u) (last_index p us) (any_at_all p us)
 
 above_none : (o : Option ℕ) → above 0 o ≡ is_some o
 above_none None = refl
-above_none (Some i) = refl
+above_none (Some i) = grind (arith, nat_tests)
 
 pub any_from : (p : ℕ → Bool) (n : ℕ) (us : List ℕ) → list_any p (drop n us) ≡ above n (last_index p us)
 any_from p zero us = any_at_all p us ∙ sym (above_none (last_index p us))
@@ -167,5 +170,5 @@ pub last_ends : (p : ℕ → Bool) (us : List ℕ) (i : ℕ) (last : Option ℕ)
 last_ends p us i last le = ap (λ vs. option_or (moved i (last_index p vs)) last) (ended i us le)
 
 -- a text from a character of its own on
-pub drop_here : (us : List ℕ) (i : ℕ) → i < length us → drop i us ≡ get_or us i 0 ∷ drop (i + 1) us
-drop_here us i less = let next : suc i ≡ i + 1 = omega arith in drop-cons us i 0 less ∙ ap (λ n. get_or us i 0 ∷ drop n us) next
+pub drop_here : (us : List ℕ) (i u : ℕ) → i < length us → u ≡ get_or us i u → drop i us ≡ u ∷ drop (i + 1) us
+drop_here us i u less is = let next : suc i ≡ i + 1 = omega arith in drop-cons us i u less ∙ ap (λ v. v ∷ drop (suc i) us) (sym is) ∙ ap (λ n. u ∷ drop n us) next
