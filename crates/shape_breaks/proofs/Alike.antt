@@ -14,7 +14,7 @@ abbrev Unmarked : List ℕ → Type 0
 Unmarked us = list_any is_mark_character us ≡ false
 
 marked_first : (us vs : List ℕ) → Marked us → Marked (us ++ vs)
-marked_first [] vs h = cc
+marked_first [] vs h = absurd (let no : false ≡ true = h in cc)
 marked_first (u ∷ us) vs h = list_any-append is_mark_character us vs ∙ or_first (list_any is_mark_character us) (list_any is_mark_character vs) h
 
 both_false : (a b : Bool) → a ≡ false → b ≡ false → (a || b) ≡ false

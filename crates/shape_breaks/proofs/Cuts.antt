@@ -116,7 +116,7 @@ abbrev are_marked : Tables → List ℕ → Bool
 are_marked t vs = list_any (has_property t PlainMark) (drop 1 vs) || (not (passes_at is_above vs 0) && list_any (has_property t SaraAm) (drop 1 vs))
 
 marked : (t : Tables) (xs : List Item) → are_marked t (characters xs) ≡ true → IsMarkedText xs
-marked t [] h = cc
+marked t [] h = absurd (let no : false ≡ true = h in cc)
 marked t (x ∷ xs) h = elim (either_true (list_any (has_property t PlainMark) (characters xs)) (not (is_above x.number) && list_any (has_property t SaraAm) (characters xs)) h) [
   | inl plain ↦ inl (plain_marks_in t xs ∙ plain)
   | inr other ↦
@@ -222,10 +222,10 @@ splits_as_tables shaper plan p b us at same h = by_shaper shaper same (both_true
     by_shaper (any.Script ARABIC_SHAPER) e k = follows_by p (rules_of (any.Script ARABIC_SHAPER) plan) e (λ u. refl)
     by_shaper (any.Script THAI_SHAPER) e k = follows_by p (rules_of (any.Script THAI_SHAPER) plan) e (λ u. refl)
     by_shaper (any.Script HANGUL_SHAPER) e k = follows_by p (rules_of (any.Script HANGUL_SHAPER) plan) e (λ u. refl)
-    by_shaper (any.Script INDIC_SHAPER) e k = cc
-    by_shaper (any.Script KHMER_SHAPER) e k = cc
-    by_shaper (any.Script MYANMAR_SHAPER) e k = cc
-    by_shaper (any.Script UNIVERSAL_SHAPER) e k = cc
+    by_shaper (any.Script INDIC_SHAPER) e k = absurd (let no : false ≡ true = k in cc)
+    by_shaper (any.Script KHMER_SHAPER) e k = absurd (let no : false ≡ true = k in cc)
+    by_shaper (any.Script MYANMAR_SHAPER) e k = absurd (let no : false ≡ true = k in cc)
+    by_shaper (any.Script UNIVERSAL_SHAPER) e k = absurd (let no : false ≡ true = k in cc)
 
 module _ (tones : TonesAreMarks) (nearest : NearestContextsShow) (keeps : TablesKeepTypes) (plan : hb_script_plan_t ⊤) (p p1 p2 : Shaping) (b : BreakPremises) (us : List ℕ) (at : ℕ) (whole earlier later : Sides)
     (sound : HaveNoFault p.tables) (tested : AreTested p.tables p.font b) (line : p.direction ≡ plan.direction) (inside : is_inside us at ≡ true) (lawful : b.is_lawful ≡ true) (texts : AreTextsAt us at earlier later) where
@@ -276,7 +276,6 @@ module _ (tones : TonesAreMarks) (nearest : NearestContextsShow) (keeps : Tables
       let two = both_true (b.keeps_private_marks && passes_at is_plain_beginning us at) (not (follows_joiner us at) && (none || some)) h in
       let first = both_true b.keeps_private_marks (passes_at is_plain_beginning us at) two.0 in
       let second = both_true (not (follows_joiner us at)) (none || some) two.1 in
-      let low = (inside_is us at inside).0 in
       record {
         marks = record {
           marks = elim (either_true none some second.1) [
@@ -328,7 +327,7 @@ module _ (tones : TonesAreMarks) (nearest : NearestContextsShow) (keeps : Tables
   may_by (any.Script ARABIC_SHAPER) rules h pieces = arabic_may rules h (pieces refl)
   may_by (any.Script THAI_SHAPER) rules h pieces = thai_may h
   may_by (any.Script HANGUL_SHAPER) rules h pieces = hangul_may h
-  may_by (any.Script INDIC_SHAPER) rules h pieces = cc
-  may_by (any.Script KHMER_SHAPER) rules h pieces = cc
-  may_by (any.Script MYANMAR_SHAPER) rules h pieces = cc
-  may_by (any.Script UNIVERSAL_SHAPER) rules h pieces = cc
+  may_by (any.Script INDIC_SHAPER) rules h pieces = absurd (let no : false ≡ true = h in cc)
+  may_by (any.Script KHMER_SHAPER) rules h pieces = absurd (let no : false ≡ true = h in cc)
+  may_by (any.Script MYANMAR_SHAPER) rules h pieces = absurd (let no : false ≡ true = h in cc)
+  may_by (any.Script UNIVERSAL_SHAPER) rules h pieces = absurd (let no : false ≡ true = h in cc)
