@@ -21,7 +21,7 @@ use Rattle.shape_breaks.specs.Cuts.{AreTested, is_inside, may_be_broken, may_be_
 use Rattle.shape_breaks.specs.Laws.{ArePieces, AreTextsAt, BrokenTextsShowBoth, BrokenTextsShowBothByPlans, TablesKeepMarks, TablesKeepTypes}
 use Rattle.shape_breaks.specs.Tables.{HaveNoFault}
 use Rattle.shape_breaks.specs.Texts.{text_marks}
-use Rattle.shape_breaks.proofs.Cuts.{may_by, splits_as_tables}
+use Rattle.shape_breaks.proofs.ByShaper.{may_by, splits_as_tables}
 
 -- the parts of a test that is passed
 record Passed (b : BreakPremises) (shaper : hb_ot_any_shaper_t) (plan : hb_script_plan_t ⊤) (p : Shaping) (us : List ℕ) (at : ℕ) : Type 0 where

@@ -4,7 +4,7 @@ pub mod Rows
 pub mod Types
 pub mod Keeps
 pub mod Flags
-pub mod Cuts
+pub mod ByShaper
 pub mod Broken
 pub mod Many
 pub mod Alike
