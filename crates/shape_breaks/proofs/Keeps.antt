@@ -21,7 +21,7 @@ use Rattle.shape_breaks.proofs.Types.{KeepHalves, KeepOrdered, composites_seen}
 -- ---- what holds of each character, and of no number beside them, holds of each number
 
 by_scalar : (u : ℕ) (P : Type 0) → (scalar u ≡ true → P) → (scalar u ≡ false → P) → P
-by_scalar u P yes no = by_test (scalar u) yes no
+by_scalar u P some none = by_test (scalar u) some none
   where
     by_test : (b : Bool) → (b ≡ true → P) → (b ≡ false → P) → P
     by_test true f g = f refl

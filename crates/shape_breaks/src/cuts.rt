@@ -1,5 +1,6 @@
 //! The tests of a cut.
 ghost use Rattle.std.specs.Prelude.{◌≡◌, ◌==◌, ◌↔◌, IsTrue, codes};
+ghost use Rattle.std.specs.List.{list_any};
 ghost use Rattle.buffer_core.specs.Sides.{state_of};
 ghost use Rattle.layout_map.specs.Masks.{mask_at_one};
 ghost use Rattle.script_joining.specs.Joining.{is_mongolian};
@@ -64,8 +65,19 @@ pub fn is_safe_to_break(glyphs: &GlyphBuffer, cluster: u32) -> bool
 fn has_safe_glyph(infos: &[hb_glyph_info_t], cluster: u32) -> bool
     ensures { result ≡ has_safe_glyph cluster infos.now }
 {
+    has_glyph_of(infos, cluster) && !has_unsafe_glyph_of(infos, cluster)
+}
+
+fn has_glyph_of(infos: &[hb_glyph_info_t], cluster: u32) -> bool
+    ensures { result ≡ list_any (is_of cluster) infos.now }
+{
     infos.iter().any(|info| is_of(info, cluster))
-        && !infos.iter().any(|info| is_unsafe_of(info, cluster))
+}
+
+fn has_unsafe_glyph_of(infos: &[hb_glyph_info_t], cluster: u32) -> bool
+    ensures { result ≡ list_any (is_unsafe_of cluster) infos.now }
+{
+    infos.iter().any(|info| is_unsafe_of(info, cluster))
 }
 
 fn is_of(info: &hb_glyph_info_t, cluster: u32) -> bool

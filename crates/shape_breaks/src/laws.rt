@@ -48,7 +48,6 @@ pub fn law_texts_show_all_pieces()
 
 /// Pieces that all have a mark after their first character, or of which none has a mark, are cut alike, each from what is
 /// left.
-#[tactic(auto, using(crate::proofs::Alike::alike_pieces))]
 pub fn law_alike_pieces_have_like_marks()
     ensures { AlikePiecesHaveLikeMarks }
 {}

@@ -10,7 +10,7 @@ use std::alloc::{AllocError, Global};
 use std::test::Fail;
 
 /// A font of one letter.
-pub(crate) static FONT: &str = "{\"cmap\":[[97,1]]}";
+pub(crate) const FONT: &str = "{\"cmap\":[[97,1]]}";
 
 /// Tables that are read from a text, in a box, so that a function that owns them frees one value on each way out.
 #[derive(Drop)]
