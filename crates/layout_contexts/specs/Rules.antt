@@ -18,6 +18,12 @@ is_tried_at (Glyphs rules) x = true
 is_tried_at (Classes s) x = is_covered_by s.first x
 is_tried_at (Coverage rules) x = true
 
+-- whether the rules are tested by the glyph after the cursor: that by coverages (format 3), the only one of its subtable, isn't
+abbrev pub is_tested_by_next : ContextSubtable → Bool
+is_tested_by_next (Glyphs rules) = true
+is_tested_by_next (Classes s) = true
+is_tested_by_next (Coverage rules) = false
+
 -- all rules that begin with an item stand from an index on and before another
 pub record BeginWithin (x : Item) (rules : List Chain) (start end : ℕ) : Type 0 where
   pub ordered : start ≤ end

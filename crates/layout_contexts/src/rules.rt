@@ -1,10 +1,10 @@
 //! The rules of a context subtable, in any of its formats (OpenType, chapter 2, sequence context formats 1 to 3).
-ghost use Rattle.std.specs.Prelude.{◌≡◌, ◌<◌, false, length, map, slice_get, Some};
+ghost use Rattle.std.specs.Prelude.{◌≡◌, ◌<◌, true, false, length, map, slice_get, Some};
 ghost use Rattle.buffer_glyphs.specs.Items.{item_of};
 ghost use Rattle.layout_contexts.specs.Chains.{class_chain, coverage_chain, glyph_chain};
 ghost use Rattle.layout_contexts.specs.Fitting.{chain_of};
 ghost use Rattle.layout_contexts.specs.Following.{may_follow};
-ghost use Rattle.layout_contexts.specs.Rules.{BeginWithin, chains_of, is_tried_at};
+ghost use Rattle.layout_contexts.specs.Rules.{BeginWithin, chains_of, is_tested_by_next, is_tried_at};
 
 use crate::chain::ChainRule;
 use buffer_glyphs::info::hb_glyph_info_t;
@@ -109,10 +109,12 @@ fn classes_may_follow(rules: &ClassRules, rule: &ItemRule, next: &NextGlyphs) ->
 
 /// Whether the rule at an index among those of a subtable, which begins with the glyph at the cursor, may match by the
 /// one after it: false only where it can't. Of the rule it takes only the sequence with the item that it tests: most rules
-/// are passed over by it.
+/// are passed over by it. A rule by coverages isn't tested, and answered by true.
 pub fn may_follow_at(subtable: &ContextSubtable, i: usize, next: &NextGlyphs) -> bool
     requires { i < length (chains_of subtable.now) }
-    ensures { result ≡ false → slice_get (map (may_follow next.now) (chains_of subtable.now)) i ≡ Some false }
+    ensures excluded { result ≡ false → slice_get (map (may_follow next.now) (chains_of subtable.now)) i ≡ Some false }
+    ensures tested { is_tested_by_next subtable.now ≡ true
+        → slice_get (map (may_follow next.now) (chains_of subtable.now)) i ≡ Some result }
 {
     match subtable {
         ContextSubtable::Glyphs(rules) => glyphs_may_follow(&rules.as_slice()[i], next),

@@ -166,7 +166,7 @@ apply_rules-loop-i-preserved-then-not-may_follow_at t c =
     record {
       passed =
           passed_over_at (nested_actions c.args.table.now.lookups c.args.depth c.args.buffer.now.direction a) a (chains_of c.args.subtable.now) c.next_for_rules-next.result c.loop-i.i c.args.ctx.now.random_state c.args.buffer.now c.loop-i.buffer (omega (arith, c.loop-i-test.true, c.rules_at-start.ensures.within))
-          (c.may_follow_at.ensures c.if-not-may_follow_at.true) (record { input = told.input; lookahead = told.lookahead; unflagged = told.unflagged }) i.passed;
+          (c.may_follow_at.ensures.excluded c.if-not-may_follow_at.true) (record { input = told.input; lookahead = told.lookahead; unflagged = told.unflagged }) i.passed;
       kept = i.kept;
     }
 
