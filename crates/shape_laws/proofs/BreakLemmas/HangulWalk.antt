@@ -35,7 +35,7 @@ use Rattle.shape_laws.proofs.BreakLemmas.HangulSteps.{AreFed, action_fed, taken_
 use Rattle.shape_laws.proofs.BreakLemmas.MarkOrders.{given_first, given_from}
 use Rattle.shape_laws.proofs.BreakLemmas.Rewrites.{replaced_count}
 use Rattle.shape_laws.proofs.BreakLemmas.Fractions.{drop_second}
-use Rattle.script_dispatch.specs.Lemmas.Keeping.Hangul.{letters_some, letters_long}
+use Rattle.script_hangul.proofs.Letters.{letters_some, letters_long}
 use Rattle.layout_laws.proofs.BreakLemmas.Walks.{bounded_both as both_bounded}
 use Rattle.buffer_parts.specs.Lemmas.Plainly.{both_plain}
 use Rattle.layout_laws.proofs.BreakLemmas.Frames.{given_both}
