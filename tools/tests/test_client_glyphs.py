@@ -58,21 +58,25 @@ class Other:
 
     def nominal(self, _font: Any, _data: Any, character: int, glyph: Any, _user: Any) -> int:
         sequence = chr(character)
-        if sequence in self.map:
-            return self.given(sequence, glyph)
-        return int(self.calls.hb_font_get_nominal_glyph(self.parent, ctypes.c_uint32(character), glyph))
+        return self.given(self.map[sequence] if sequence in self.map else self.own_glyph(sequence), glyph)
 
     def variation(self, _font: Any, _data: Any, character: int, selector: int, glyph: Any, _user: Any) -> int:
         sequence = chr(character) + chr(selector)
-        if sequence in self.map:
-            return self.given(sequence, glyph)
-        given = (ctypes.c_uint32(character), ctypes.c_uint32(selector), glyph)
-        return int(self.calls.hb_font_get_variation_glyph(self.parent, *given))
+        return self.given(self.map[sequence] if sequence in self.map else self.own_glyph(sequence), glyph)
 
-    def given(self, sequence: str, glyph: Any) -> int:
-        found = self.map[sequence]
-        glyph[0] = found or 0
-        return int(found is not None)
+    def given(self, found: Optional[int], glyph: Any) -> int:
+        # Where there is none, the not-found glyph stays that HarfBuzz has put there.
+        if found is None:
+            return 0
+        glyph[0] = found
+        return 1
+
+    def own_glyph(self, sequence: str) -> Optional[int]:
+        """The font's own glyph of a character, or of a character and its selector."""
+        glyph, given = ctypes.c_uint32(), [ctypes.c_uint32(ord(character)) for character in sequence]
+        name = "nominal" if len(given) == 1 else "variation"
+        has = getattr(self.calls, f"hb_font_get_{name}_glyph")(self.parent, *given, ctypes.byref(glyph))
+        return glyph.value if has else None
 
     def shape(self, text: str, flags: int = 0) -> list[tuple[int, ...]]:
         """Each glyph with its cluster and position."""
@@ -132,7 +136,7 @@ class ClientGlyphs(unittest.TestCase):
                     continue
                 for _ in range(40):
                     given = drawn_map(draw, text, 200)
-                    before: Map = {name: other_glyph(font, other, name) for name in given}
+                    before: Map = {name: other.own_glyph(name) for name in given}
                     other.map = given
                     font.set_glyphs(given)
                     wanted = other.shape(text)
@@ -157,7 +161,7 @@ class ClientGlyphs(unittest.TestCase):
                     first = other.shape(text, flags)
                     if self.own(font, text, flags) != first:
                         continue
-                    for _ in range(4):
+                    for _ in range(8):
                         other.invisible, other.not_found = draw.randrange(300), draw.randrange(65536)
                         font.set_invisible_glyph(other.invisible)
                         font.set_not_found_glyph(other.not_found)
@@ -211,17 +215,6 @@ class ClientGlyphs(unittest.TestCase):
         for character in characters:
             self.assertEqual(font.nominal_glyph(character), given[character])
         self.assertIsNone(font.nominal_glyph("\U0002f000"))
-
-
-def other_glyph(font: Any, other: Other, sequence: str) -> Optional[int]:
-    """The font's own glyph of a sequence, by HarfBuzz."""
-    glyph = ctypes.c_uint32()
-    if len(sequence) == 1:
-        has = other.calls.hb_font_get_nominal_glyph(other.parent, ctypes.c_uint32(ord(sequence)), ctypes.byref(glyph))
-    else:
-        given = (ctypes.c_uint32(ord(sequence[0])), ctypes.c_uint32(ord(sequence[1])))
-        has = other.calls.hb_font_get_variation_glyph(other.parent, *given, ctypes.byref(glyph))
-    return glyph.value if has else None
 
 
 def plain(other: Other, text: str) -> list[tuple[int, ...]]:

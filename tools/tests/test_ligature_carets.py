@@ -3,6 +3,7 @@
 import ctypes
 import ctypes.util
 import io
+import logging
 import struct
 import unittest
 from pathlib import Path
@@ -80,6 +81,8 @@ def with_table(made: bytes) -> bytes:
     from fontTools.ttLib import TTFont
     from fontTools.ttLib.tables.DefaultTable import DefaultTable
 
+    # The file was made in 1970, of which fontTools warns.
+    logging.getLogger("fontTools").setLevel(logging.ERROR)
     font, to = TTFont(io.BytesIO(FILE)), io.BytesIO()
     added = DefaultTable("GDEF")
     added.data = made
@@ -95,7 +98,7 @@ class LigatureCarets(unittest.TestCase):
         self.binding = module(built())
 
     def carets_of(self, file: bytes, glyphs: int) -> list[list[int]]:
-        with self.binding.Font(None, file) as font:
+        with self.binding.Font(file) as font:
             return [font.ligature_carets(glyph) for glyph in range(glyphs)]
 
     @needs_fonts
