@@ -15,7 +15,7 @@ character_starts text = offsets_from 0 (chars text)
 abbrev pub SlicesFit : Sides → List ℕ → Type 0
 SlicesFit result text = FitsText (character_starts text) (clusters (all_glyphs result))
 
--- the same of a text of `end` units each of which may begin a cluster, as of UTF-16: each cluster is the index of a unit
+-- the clusters of a result never fall or never rise, each is the index of one of the `end` units of a text, as of UTF-16, and 0 is among them
 pub record UnitsFit (result : Sides) (end : ℕ) : Type 0 where
   pub ordered : IsOrdered (clusters (all_glyphs result))
   pub within : (n : ℕ) → IsTrue (has_number (clusters (all_glyphs result)) n) → n < end
