@@ -70,4 +70,4 @@ units_without_line d result end ss backward test are same is failed has =
 
 -- a result that doesn't fit has no line
 pub without_fit : (d : Direction) (result : Sides) (end : ℕ) → ¬ UnitsFit result end → ¬ HasLineTo d result end
-without_fit d result end no has = no (record { ordered = has.ordered; within = has.within; zero_there = has.zero_there })
+without_fit d result end unfit has = unfit (record { ordered = has.ordered; within = has.within; zero_there = has.zero_there })
