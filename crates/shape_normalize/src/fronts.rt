@@ -233,17 +233,25 @@ fn take_each<N: Normalizing>(
     at
 }
 
+/// `take_each` of a text whose characters are remembered. (Not inlined, so that a short text has no room for rows.)
+#[inline(never)]
+fn take_remembered<N: Normalizing>(by: &N, glyphs: &mut [hb_glyph_info_t]) -> usize
+    ensures { TakesGlyphs (N.normalizer by.now) result glyphs.old glyphs.new }
+{
+    let mut rows = [None; GLYPH_ROWS];
+    let mut known = [None; ROWS];
+    take_each(by, &mut rows, &mut known, glyphs)
+}
+
 /// `take_each`, where characters of a long text are remembered.
-#[tactic(auto, using(crate::proofs::Remembered::none_known, crate::proofs::Remembered::nothing_known, crate::proofs::KnownGlyphs::no_glyphs, crate::proofs::KnownGlyphs::first_glyphs))]
+#[tactic(auto, using(crate::proofs::Remembered::none_known, crate::proofs::KnownGlyphs::no_glyphs))]
 fn take_by_rows<N: Normalizing>(by: &N, glyphs: &mut [hb_glyph_info_t]) -> usize
     ensures { TakesGlyphs (N.normalizer by.now) result glyphs.old glyphs.new }
 {
     if glyphs.len() < ROWS {
         return take_each(by, &mut [], &mut [], glyphs);
     }
-    let mut rows = [None; GLYPH_ROWS];
-    let mut known = [None; ROWS];
-    take_each(by, &mut rows, &mut known, glyphs)
+    take_remembered(by, glyphs)
 }
 
 /// Gives the characters before the first that may not stay whole, with the marks after it, the font's glyphs; returns

@@ -39,6 +39,8 @@ fn give_at<N: Normalizing>(
     give_glyph(by, rows, buffer.cur_mut(i));
 }
 
+// (Inlined: it is called for each text, and most have no character left then.)
+#[inline(always)]
 fn give_each<N: Normalizing>(by: &N, rows: &mut [Option<KnownGlyph>], buffer: &mut hb_buffer_t)
     requires { HaveGlyphs (N.normalizer by.now) rows.old }
     ensures { IsGiven (N.normalizer by.now) buffer.old buffer.new }
@@ -49,8 +51,18 @@ fn give_each<N: Normalizing>(by: &N, rows: &mut [Option<KnownGlyph>], buffer: &m
     }
 }
 
+/// Gives each character ahead the font's glyph, or glyph 0, and remembers them. (Not inlined, so that a short text has
+/// no room for rows.)
+#[inline(never)]
+fn give_remembered<N: Normalizing>(by: &N, buffer: &mut hb_buffer_t)
+    ensures { IsGiven (N.normalizer by.now) buffer.old buffer.new }
+{
+    let mut rows = [None; GLYPH_ROWS];
+    give_each(by, &mut rows, buffer);
+}
+
 /// Gives each character ahead the font's glyph, or glyph 0; those of a long text are remembered.
-#[tactic(auto, using(crate::proofs::KnownGlyphs::no_glyphs, crate::proofs::KnownGlyphs::first_glyphs))]
+#[tactic(auto, using(crate::proofs::KnownGlyphs::no_glyphs))]
 pub(crate) fn give_ahead<N: Normalizing>(by: &N, buffer: &mut hb_buffer_t)
     ensures { IsGiven (N.normalizer by.now) buffer.old buffer.new }
 {
@@ -58,8 +70,7 @@ pub(crate) fn give_ahead<N: Normalizing>(by: &N, buffer: &mut hb_buffer_t)
         give_each(by, &mut [], buffer);
         return;
     }
-    let mut rows = [None; GLYPH_ROWS];
-    give_each(by, &mut rows, buffer);
+    give_remembered(by, buffer);
 }
 
 /// How many marks follow from an index on.

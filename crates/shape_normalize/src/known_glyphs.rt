@@ -15,7 +15,9 @@ pub(crate) struct KnownGlyph {
     pub glyph: Option<u32>,
 }
 
-/// The font's glyph for a character, remembered where there are rows.
+/// The font's glyph for a character, remembered where there are rows. (Inlined, so that a short text, which has none,
+/// takes no call for them.)
+#[inline(always)]
 pub(crate) fn remembered_glyph<N: Normalizing>(
     by: &N,
     rows: &mut [Option<KnownGlyph>],
@@ -25,7 +27,6 @@ pub(crate) fn remembered_glyph<N: Normalizing>(
     ensures value { result ≡ (N.normalizer by.now).glyph_of u }
     ensures rows { HaveGlyphs (N.normalizer by.now) rows.new }
 {
-    // A short text has none, and then no call is made for a look at them.
     if rows.is_empty() {
         return by.glyph(u);
     }
@@ -33,7 +34,8 @@ pub(crate) fn remembered_glyph<N: Normalizing>(
 }
 
 /// The font's glyph for a character: remembered in the row of its number's low bits, or found, and remembered from now
-/// on.
+/// on. (Not inlined, so that the look-up without rows is.)
+#[inline(never)]
 #[tactic(auto, using(crate::proofs::KnownGlyphs::row_glyph, crate::proofs::KnownGlyphs::row_set))]
 fn glyph_by_rows<N: Normalizing>(by: &N, rows: &mut [Option<KnownGlyph>], u: u32) -> Option<u32>
     requires { HaveGlyphs (N.normalizer by.now) rows.old }
