@@ -71,20 +71,20 @@ impl CaretModel {
         })
     }
 
-    /// The carets of the result of a text of `end` units that its clusters are of, as of UTF-16; a caret's byte is then the
+    /// The carets of the result of a text of some units that its clusters are of, as of UTF-16; a caret's byte is then the
     /// index of a unit.
     #[tactic(auto, using(crate::proofs::Units::without_fit))]
     pub fn of_units(
         alloc: Global,
         glyphs: &GlyphBuffer,
-        end: usize,
+        units: usize,
         direction: Direction,
     ) -> Result<CaretModel, CaretFault>
-        ensures line { IfOk result (IsLineTo direction glyphs.now end) }
+        ensures line { IfOk result (IsLineTo direction glyphs.now units) }
         ensures few { OnOk result (length (all_glyphs glyphs.now) < 2 ^ 32) }
-        ensures fault { IfErr result (IsFaultTo direction glyphs.now end) }
+        ensures fault { IfErr result (IsFaultTo direction glyphs.now units) }
     {
-        if !units_fit(glyphs, end) {
+        if !units_fit(glyphs, units) {
             return Err(CaretFault::NoSlices);
         }
         if glyphs.len() > u32::MAX as usize {
@@ -92,16 +92,16 @@ impl CaretModel {
         }
         law_source_slices_join();
         let backward = direction.is_backward();
-        let slices = unit_slices(alloc, glyphs, end)?;
-        if !are_at_beginning(backward, end, &slices) {
+        let slices = unit_slices(alloc, glyphs, units)?;
+        if !are_at_beginning(backward, units, &slices) {
             return Err(CaretFault::NoSlices);
         }
-        let carets = carets_of(alloc, direction, glyphs.glyph_positions(), end, &slices)?;
+        let carets = carets_of(alloc, direction, glyphs.glyph_positions(), units, &slices)?;
         Ok(CaretModel {
             slices,
             carets,
             backward,
-            end,
+            end: units,
         })
     }
 
