@@ -11,8 +11,8 @@ pub use layout_face::parts::{CharacterRow, GlyphDefinition, NameRow, VariationRo
 pub use layout_face::positioning::{PositioningLookup, PositioningSubtables, PositioningTable};
 pub use layout_face::substitution::{SubstLookup, SubstitutionSubtables, SubstitutionTable};
 pub use layout_tables::context::{ClassRules, ContextSubtable, SequenceLookupRecord, SequenceRule};
-pub use layout_tables::item_rule::ItemRule;
 pub use layout_tables::cursive::{CursivePos, EntryExit};
+pub use layout_tables::item_rule::ItemRule;
 pub use layout_tables::ligature::{Ligature, LigatureSet, LigatureSubst};
 pub use layout_tables::mark::{
     BaseRow, ComponentRecord, LigatureRow, MarkBasePos, MarkLigPos, MarkRecord,
