@@ -10,12 +10,14 @@ from functools import partial
 from pathlib import Path
 from typing import Any, Callable, Iterator
 
+from beside.flags import Forbidden, forbidden, table_of
 from beside.fonts_cli import USUAL, fonts_of
 from beside.fonts_texts import scripts_of, words_of
 from beside.fonts_try import WITH_BOXES
 from beside.pages import CLAUSE, text_of
 from beside.sets import SETS, Set
-from building.ready import ready_trials
+from building.places import KUSPVELI
+from building.ready import ready_program, ready_trials
 from common.faults import ToolFault
 from common.notes import Notes
 from common.parsing import Words
@@ -32,7 +34,9 @@ break that is safe, and compares the glyphs of the pieces with those of the whol
 are words of bench/beside/words that the font has all characters of, and strings of its letters and marks, the same ones at
 each run; with --pages they are the clauses of the texts of bench/real, each in its font. Printed are the breaks of each
 script that were tried, each line whose pieces differ, as unsure where that may be for a known reason, and each line at
-which the program ends or whose answer breaks another promise. The status is 1 where a line is printed that isn't unsure."""
+which the program ends or whose answer breaks another promise. The status is 1 where a line is printed that isn't unsure.
+With --flags those clauses are shaped alone, and a table says how many breaks for 1,000 characters are forbidden by flag, by
+hb-shape, by the program and by the program with --safe-breaks."""
 # Words of a line, and its least and greatest lengths by chance.
 LONGEST = 8
 STRINGS = (2, 12)
@@ -64,6 +68,7 @@ def parser() -> argparse.ArgumentParser:
     words.add_argument("folders", nargs="*", type=Path, default=[USUAL], metavar="FOLDER", help=f"or a font ({USUAL})")
     words.add_argument("--every", type=int, default=1, metavar="N", help="each Nth font alone (1)")
     words.add_argument("--pages", action="store_true", help="clauses of the texts of bench/real, in place of the folders")
+    words.add_argument("--flags", action="store_true", help="what is forbidden in those clauses, in place of cuts")
     words.add_argument("--lines", type=int, default=200, metavar="N", help="lines for each font (200)")
     words.add_argument("--jobs", type=int, default=1, metavar="N", help="processes that try fonts (1)")
     words.add_argument("--seed", type=int, default=1, metavar="N", help="which lines are drawn (1)")
@@ -73,6 +78,9 @@ def parser() -> argparse.ArgumentParser:
 def main(given: list[str]) -> int:
     """Cuts; its status is 1 where a line isn't as it should be for no known reason."""
     options = parser().parse_args(given)
+    if options.flags:
+        print("\n".join(table_of(list(all_forbidden(options.lines, options.every)))))
+        return 0
     program = ready_trials(NAME)
     reader()  # before there are processes, each of which would look for it
     tried: list[Tried] = []
@@ -89,6 +97,22 @@ def main(given: list[str]) -> int:
     fonts = {each.font for each in tried if not each.refused}
     print(f"{sum(total.values()):,} breaks in {len(fonts):,} fonts; wrong lines: {wrong:,}, unsure: {found['unsure']:,}")
     return 1 if wrong else 0
+
+
+def all_forbidden(count: int, every: int) -> Iterator[Forbidden]:
+    """What flags forbid in the clauses of the sets whose font is there."""
+    program = ready_program(NAME, target=KUSPVELI)
+    for chosen in SETS[::every]:
+        if chosen.font.is_file():
+            yield forbidden(program, chosen, clauses_of(chosen, count))
+        else:
+            told(missing(chosen))
+
+
+def missing(chosen: Set) -> Tried:
+    """Of a set whose font isn't installed."""
+    refused = f"apt-get install {chosen.package}: {chosen.font} is not there"
+    return Tried(str(chosen.font), Counter(), refused=refused)
 
 
 def works(program: Path, tables: bytes, options: argparse.Namespace) -> tuple[Callable[[Any], Tried], list[Any]]:
@@ -109,7 +133,7 @@ def told(tried: Tried) -> None:
 def try_set(program: Path, tables: bytes, count: int, chosen: Set) -> Tried:
     """Cuts the clauses of a set's text in its font."""
     if not chosen.font.is_file():
-        return Tried(str(chosen.font), Counter(), refused=f"apt-get install {chosen.package}: {chosen.font} is not there")
+        return missing(chosen)
     lines = [Line(chosen.name, clause) for clause in clauses_of(chosen, count)]
     return tried_lines(program, tables, chosen.font, [f"--language={chosen.language}"], lambda characters: lines)
 

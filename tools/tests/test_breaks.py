@@ -15,11 +15,13 @@ from support import DEJAVU, told_by, write_stand_in  # it puts the tools and ben
 
 from beside import breaks_cli
 from beside.breaks_cli import clauses_of, lines_of
+from beside.flags import Forbidden, flagged, table_of
 from beside.sets import SETS
 from building.places import PROGRAM, TRIALS, Place, standing
 from fuzzing.in_process import run_stream
 from fuzzing.streams import TrialCase
 from fuzzing.tables import SHIPPED
+from shaping.glyphs import read_line
 
 GLYPHS = 65536
 
@@ -364,6 +366,14 @@ class Lines(unittest.TestCase):
             clauses = clauses_of(chosen, 20)
             self.assertEqual((len(clauses), min(map(len, clauses)) > 5), (20, True), chosen.title)
             self.assertFalse([clause for clause in clauses if chosen.stop in clause], chosen.title)
+
+    def test_flags(self) -> None:
+        """A break is forbidden where a glyph of its cluster has the flag, but for the beginning of a line."""
+        lines = ["1=0#1|2=3#1|3=3|4=5#2|5=9#3", "7=4#1|6=0"]
+        self.assertEqual(flagged(map(read_line, lines)), 3)
+        rows = [Forbidden("one", 2000, (4, 6, 500)), Forbidden("other", 1000, (2, 0, 1))]
+        cells = ["| one | 2,000 | 2 | 3 | 250 |", "| other | 1,000 | 2 | 0 | 1 |", "| all | 3,000 | 2 | 2 | 167 |"]
+        self.assertEqual(table_of(rows)[2:], cells)
 
     def test_drawn_lines(self) -> None:
         """They are of the font's characters, and the same ones each time."""
