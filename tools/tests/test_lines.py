@@ -36,6 +36,7 @@ OK 6: 0@0 2@0 3@500 4@760 5@1020 6@1620
 OK 6: 0@0 2@0
 InvalidStops 0:
 NoSlices 0:
+OK 5: 0@0 2@0 3@500 5@1020 4611686018427387904@1620
 """
 # The paragraph's texts with their fonts, the units of an em of each font, and what the examples set them by.
 TEXTS = (

@@ -310,7 +310,7 @@ call_shape (void)
   if (once_in (3)) try_slices (font, &text);
   size_t end = once_in (20) ? below (2 * MOST_CHARACTERS) : end_of (&text);
   if (once_in (3)) try_lines (font, end);
-  if (once_in (3)) try_carets (font, end);
+  if (once_in (3)) try_carets (font, once_in (9) ? (size_t) drawn () : end);
   kus_get_direction (font);
   kus_get_script (font);
   free_text (&text);

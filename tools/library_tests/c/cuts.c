@@ -64,6 +64,7 @@ main (int argc, char **argv)
   print_carets (&font, length, breaks, 3, 2);
   print_carets (&font, length, turned, 2, 0);
   print_carets (&font, 5, breaks, 0, 0);
+  print_carets (&font, (size_t) 1 << 62, breaks, 0, 5);
   kus_font_destroy (&font);
   return 0;
 }
