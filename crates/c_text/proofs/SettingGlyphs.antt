@@ -1,7 +1,7 @@
 -- Glyphs of characters that a client gives, set one after another, and plans, which don't depend on them.
-use Rattle.std.proofs.Common.{ℕ, zero, suc, arith, ◌≡◌, ◌<◌, ◌≤◌, ◌+◌, ◌==◌, if◌then◌else◌, ◌&&◌, Bool, true, false, List, [], ◌∷◌, ◌++◌, length, drop, take, get_or, refl, sym, ap, subst, ◌∙◌}
+use Rattle.std.proofs.Common.{ℕ, zero, suc, arith, ◌≡◌, ◌<◌, ◌+◌, ◌==◌, if◌then◌else◌, ◌&&◌, Bool, true, false, List, [], ◌∷◌, ◌++◌, length, drop, take, get_or, refl, sym, ap, subst, ◌∙◌}
 use Rattle.std.proofs.lemmas.Bool.{and_parts, eq-eqb, eqb-true, false≢true}
-use Rattle.std.proofs.lemmas.List.{drop_more, take_all, take_more}
+use Rattle.std.proofs.lemmas.List.{drop_more, take_more}
 use Rattle.std.specs.Prelude.{⊤, ◌≢◌, Some}
 use lib.Utf8.{scalar}
 use Rattle.std.specs.List.{All}
@@ -30,20 +30,6 @@ set_after : (front given : List kus_character_glyph_t) (font : FaceParts) → wi
 set_after [] given font = refl
 set_after (g ∷ front) given font = set_after front given (with_glyph g font)
 
--- one more glyph is set
-pub one_more_set : (given : List kus_character_glyph_t) (i : ℕ) (d : kus_character_glyph_t) (old font next : FaceParts) → font ≡ with_glyphs (take i given) old → i < length given
-    → next ≡ with_glyph (get_or given i d) font → next ≡ with_glyphs (take (i + 1) given) old
-one_more_set given i d old font next front inside set =
-    set ∙ ap (with_glyph (get_or given i d)) front ∙ sym (set_after (take i given) (get_or given i d ∷ []) old) ∙ sym (ap (λ l. with_glyphs l old) (take_more given i d inside))
-
--- past the end all are set
-pub all_set : (given : List kus_character_glyph_t) (i : ℕ) (old font : FaceParts) → font ≡ with_glyphs (take i given) old → length given ≤ i → font ≡ with_glyphs given old
-all_set given i old font front past = front ∙ ap (λ l. with_glyphs l old) (take_all given i past)
-
--- where one isn't set, those before it are
-pub front_of : (given : List kus_character_glyph_t) (i : ℕ) (old font next : FaceParts) → font ≡ with_glyphs (take i given) old → i < length given → next ≡ font → AreSetAtFront given old next
-front_of given i old font next front inside same = record { count = i; more = inside; same = same ∙ front }
-
 -- ---- refusals
 
 refusal_by : (b : Bool) (g : kus_character_glyph_t) (given : List kus_character_glyph_t) → (glyph_refusal g == 0) ≡ b
@@ -60,6 +46,15 @@ taken_next given i g d none inside is =
     let rest = drop (i + 1) given in
     let opened : drop i given ≡ g ∷ rest = drop_more given i d inside ∙ ap (λ x. x ∷ rest) (sym is) in
     refusal_by (glyph_refusal g == 0) g rest refl (sym (ap glyphs_refusal opened) ∙ none)
+
+-- one more glyph of a list that is taken is set; those that are left are taken
+pub one_more_set : (given : List kus_character_glyph_t) (i : ℕ) (d : kus_character_glyph_t) (old font next : FaceParts)
+    → (font ≡ with_glyphs (take i given) old) × (glyphs_refusal (drop i given) ≡ 0) → i < length given → next ≡ with_glyph (get_or given i d) font
+    → (next ≡ with_glyphs (take (i + 1) given) old) × (glyphs_refusal (drop (i + 1) given) ≡ 0)
+one_more_set given i d old font next are inside set = (
+  set ∙ ap (with_glyph (get_or given i d)) are.0 ∙ sym (set_after (take i given) (get_or given i d ∷ []) old) ∙ sym (ap (λ l. with_glyphs l old) (take_more given i d inside)),
+  (taken_next given i (get_or given i d) d are.1 inside refl).1,
+)
 
 -- the refusal of a glyph by its two tests
 refusal_tests : (characters glyph : Bool) → ℕ
