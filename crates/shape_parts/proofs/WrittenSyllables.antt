@@ -1,5 +1,5 @@
 -- Syllables of Hangul whose graphemes are merged before, or once each is written.
-use Rattle.std.proofs.Common.{◌≡◌, Bool, true, false, nat_le, List, [], Ok, Err, length}
+use Rattle.std.proofs.Common.{◌≡◌, Bool, true, false, if◌then◌else◌, nat_le, List, [], Ok, Err, length}
 use Rattle.buffer_glyphs.specs.declared.cause.ShapeCause.TheVariants.{TooLong}
 use Rattle.buffer_glyphs.specs.Items.{Item}
 use Rattle.buffer_parts.specs.Lemmas.Stages.{at_read}
