@@ -65,6 +65,28 @@ unfolding refusal_tests
 tests_hold true glyph none = refl
 tests_hold false glyph none = absurd (omega (arith, none))
 
+-- a refusal is none of want of memory, and none of a font that is shared
+abbrev pub IsOfGlyph : ℕ → Type 0
+IsOfGlyph n = (n ≢ 1) × (n ≢ 26)
+
+tests_of_glyph : (characters glyph : Bool) → IsOfGlyph (refusal_tests characters glyph)
+unfolding refusal_tests
+tests_of_glyph true true = (λ e. omega (arith, e), λ e. omega (arith, e))
+tests_of_glyph true false = (λ e. omega (arith, e), λ e. omega (arith, e))
+tests_of_glyph false glyph = (λ e. omega (arith, e), λ e. omega (arith, e))
+
+one_of_glyph : (g : kus_character_glyph_t) → IsOfGlyph (glyph_refusal g)
+unfolding refusal_tests
+one_of_glyph g = tests_of_glyph (scalar g.character && scalar g.selector) (is_glyph_or_none g.glyph)
+
+first_of_glyph : (b : Bool) (g : kus_character_glyph_t) (given : List kus_character_glyph_t) → (glyph_refusal g == 0) ≡ b → IsOfGlyph (glyphs_refusal given) → IsOfGlyph (glyphs_refusal (g ∷ given))
+first_of_glyph true g given e rest = rw e rest
+first_of_glyph false g given e rest = rw e (one_of_glyph g)
+
+pub all_of_glyph : (given : List kus_character_glyph_t) → IsOfGlyph (glyphs_refusal given)
+all_of_glyph [] = (λ e. omega (arith, e), λ e. omega (arith, e))
+all_of_glyph (g ∷ given) = first_of_glyph (glyph_refusal g == 0) g given refl (all_of_glyph given)
+
 -- the character and the selector of a glyph that is taken are scalar values
 pub taken_scalars : (g : kus_character_glyph_t) → glyph_refusal g ≡ 0 → (scalar g.character ≡ true) × (scalar g.selector ≡ true)
 unfolding refusal_tests

@@ -231,7 +231,6 @@ impl Font {
     /// Sets glyphs of characters and of variation sequences, in the order of the list; answers a status. For want of memory
     /// those at the front are set, and where it is any other than `OK` nothing changes. Plans stay: none depends on
     /// characters.
-    #[tactic(auto, using(crate::proofs::SettingGlyphs::front_set))]
     pub fn set_glyphs(&mut self, alloc: Global, given: &[kus_character_glyph_t]) -> u32
         ensures set { result ≡ 0 → (glyphs_refusal given.now ≡ 0) × (self.new ≡ font_with_glyphs given.now self.old) }
         ensures refused { result ≢ 0 → result ≢ 1 → result ≢ 26 → result ≡ glyphs_refusal given.now }
