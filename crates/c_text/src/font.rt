@@ -290,6 +290,13 @@ impl Font {
         self.ligatures.rows()
     }
 
+    /// The tables and the font.
+    pub fn input(&self) -> &Input
+        ensures { result.now ≡ self.now.input }
+    {
+        &self.input
+    }
+
     /// What was read of the font.
     pub fn face(&self) -> &Face
         ensures { result.now ≡ self.now.input.face }
