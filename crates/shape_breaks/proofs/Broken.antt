@@ -28,14 +28,14 @@ record Passed (b : BreakPremises) (shaper : hb_ot_any_shaper_t) (plan : hb_scrip
   inside : is_inside us at ≡ true
   lawful : b.is_lawful ≡ true
   marks : b.keeps_marks ≡ true
-  shaper : may_be_cut_by shaper b plan.direction plan.script us (text_marks p.tables us) at ≡ true
+  allowed : may_be_cut_by shaper b plan.direction plan.script us (text_marks p.tables us) at ≡ true
 
 passed : (b : BreakPremises) (shaper : hb_ot_any_shaper_t) (plan : hb_script_plan_t ⊤) (p : Shaping) (us : List ℕ) (at : ℕ) → may_be_broken b shaper plan.direction plan.script us (text_marks p.tables us) at ≡ true → Passed b shaper plan p us at
 passed b shaper plan p us at h =
     let two = both_true (is_inside us at && (b.is_lawful && b.keeps_marks)) (may_be_cut_by shaper b plan.direction plan.script us (text_marks p.tables us) at) h in
     let first = both_true (is_inside us at) (b.is_lawful && b.keeps_marks) two.0 in
     let own = both_true b.is_lawful b.keeps_marks first.1 in
-    record { inside = first.0; lawful = own.0; marks = own.1; shaper = two.1 }
+    record { inside = first.0; lawful = own.0; marks = own.1; allowed = two.1 }
 
 module _ (tones : TonesAreMarks) (nearest : NearestContextsShow) (keep_marks : TablesKeepMarks) (keep_types : TablesKeepTypes) (shaper : hb_ot_any_shaper_t) (plan : hb_script_plan_t ⊤) (p p1 p2 : Shaping) (b : BreakPremises) (us : List ℕ) (at : ℕ)
     (whole earlier later : Sides) (rules : p.rules ≡ rules_of shaper plan) (line : p.direction ≡ plan.direction) (sound : HaveNoFault p.tables) (tested : AreTested p.tables p.font b)
@@ -44,7 +44,7 @@ module _ (tones : TonesAreMarks) (nearest : NearestContextsShow) (keep_marks : T
   parts = passed b shaper plan p us at may
 
   may_be_cut : AreTextsAt us at earlier later → ArePieces shaper us at p p1 p2 whole earlier later → MayBeCutBy shaper plan p p1 p2 whole earlier later
-  may_be_cut texts pieces = may_by tones nearest keep_types plan p p1 p2 b us at whole earlier later sound tested line parts.inside parts.lawful texts shaper rules parts.shaper pieces
+  may_be_cut texts pieces = may_by tones nearest keep_types plan p p1 p2 b us at whole earlier later sound tested line parts.inside parts.lawful texts shaper rules parts.allowed pieces
 
   keeps : KeepsMarks (normalizer p)
   keeps = keep_marks p sound (splits_as_tables shaper plan p b us at rules may) (tested.marks.0 parts.marks)

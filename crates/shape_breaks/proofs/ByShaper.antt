@@ -171,7 +171,7 @@ not_taken u above below = by_tests (list_any (λ v. u == v) vowels) (nat_le 0x0E
 
 begins : (xs : List Item) → passes_at is_plain_beginning (characters xs) 0 ≡ true → BeginsPlainly xs
 begins [] h = tt
-begins (x ∷ xs) h none =
+begins (x ∷ xs) h = λ none.
     let plain : (is_above x.number || (nat_le 0x0E38 x.number && nat_le x.number 0x0E3A)) ≡ false =
     false_by_not (is_above x.number || (nat_le 0x0E38 x.number && nat_le x.number 0x0E3A)) (sym (ap (λ b. b || not (is_above x.number || (nat_le 0x0E38 x.number && nat_le x.number 0x0E3A))) none) ∙ h) in
     let two = neither_true (is_above x.number) (nat_le 0x0E38 x.number && nat_le x.number 0x0E3A) plain in
