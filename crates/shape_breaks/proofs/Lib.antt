@@ -8,3 +8,4 @@ pub mod ByShaper
 pub mod Broken
 pub mod Many
 pub mod Alike
+pub mod Rest

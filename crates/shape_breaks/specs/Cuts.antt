@@ -1,5 +1,5 @@
 -- Where a text may be cut into two, as far as its characters, its shaper, tables and font decide it.
-use Rattle.std.specs.Prelude.{ℕ, ◌-◌, ◌↔◌, ◌==◌, ◌&&◌, ◌||◌, Bool, false, not, nat_le, nat_lt, IsTrue, List, Option, bit_and, length, slice_get}
+use Rattle.std.specs.Prelude.{ℕ, ◌-◌, ◌↔◌, ◌==◌, ◌&&◌, ◌||◌, Bool, false, not, nat_le, nat_lt, IsTrue, List, Option, bit_and, drop, length, slice_get}
 use Rattle.std.specs.List.{list_any}
 use Rattle.std.specs.Option.{option_map_or}
 use Rattle.buffer_common.specs.Direction.{is_backward, is_vertical}
@@ -19,7 +19,7 @@ use Rattle.shape_breaks.specs.declared.premises.BreakPremises.{BreakPremises}
 use Rattle.shape_breaks.specs.declared.texts.Occurrences.{Occurrences}
 use Rattle.shape_breaks.specs.declared.texts.TextMarks.{TextMarks}
 use Rattle.shape_breaks.specs.Tables.{KeepMarks, KeepPrivateMarks, KeepTypes}
-use Rattle.shape_breaks.specs.Texts.{is_above, is_after, is_before, is_from, is_nowhere}
+use Rattle.shape_breaks.specs.Texts.{is_above, is_after, is_before, is_from, is_nowhere, text_marks}
 
 -- premises that were tested of tables and a font
 pub record AreTested (t : Tables) (font : FaceParts) (b : BreakPremises) : Type 0 where
@@ -104,6 +104,13 @@ may_be_cut_by (any.Script UNIVERSAL_SHAPER) b d s us m at = false
 -- marks with the font, and the shaper allows it
 abbrev pub may_be_broken : BreakPremises → hb_ot_any_shaper_t → Direction → Option Script → List ℕ → TextMarks → ℕ → Bool
 may_be_broken b shaper d s us m at = (is_inside us at && (b.is_lawful && b.keeps_marks)) && may_be_cut_by shaper b d s us m at
+
+-- a line of a text, from the character at an index to that at another one, may be cut out of it: first the text is cut before
+-- it, unless the line begins it, then what is left of the text is cut after it, unless the line ends it
+abbrev pub line_may_be_cut : BreakPremises → Tables → hb_ot_any_shaper_t → Direction → Option Script → List ℕ → ℕ → ℕ → Bool
+line_may_be_cut b t shaper d s us from to =
+    (from == 0 || may_be_broken b shaper d s us (text_marks t us) from)
+    && (to == length us || may_be_broken b shaper d s (drop from us) (text_marks t (drop from us)) (to - from))
 
 -- ---- of a result
 

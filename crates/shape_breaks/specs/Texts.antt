@@ -1,5 +1,5 @@
 -- Where the characters of a text are that have a property, so that each cut of the text is tested at once.
-use Rattle.std.specs.Prelude.{ℕ, ◌+◌, ◌==◌, ◌&&◌, Bool, false, not, nat_le, nat_lt, if◌then◌else◌, is_none, List, [], ◌∷◌, Option, Some, None, option_map}
+use Rattle.std.specs.Prelude.{ℕ, ◌+◌, ◌-◌, ◌==◌, ◌&&◌, Bool, false, not, nat_le, nat_lt, if◌then◌else◌, is_none, List, [], ◌∷◌, Option, Some, None, option_map}
 use Rattle.std.specs.List.{list_any}
 use Rattle.std.specs.Option.{option_map_or, option_or}
 use Rattle.buffer_unicode_tables.specs.Tables.{Tables}
@@ -50,6 +50,24 @@ last_index p (u ∷ us) = option_or (option_map (λ n. n + 1) (last_index p us))
 -- the first character with a property after the first one of a text, and the last one
 abbrev pub occurrences : (ℕ → Bool) → List ℕ → Occurrences
 occurrences p us = record { first_later = first_later p us; last = last_index p us }
+
+-- an index of a text in what is left of it from another index on
+abbrev pub index_from : ℕ → Option ℕ → Option ℕ
+index_from from None = None
+index_from from (Some n) = if nat_le from n then Some (n - from) else None
+
+-- where a piece has the first such character after its first one, and what is left of the text with it the last one
+abbrev pub piece_occurrences : ℕ → Occurrences → Occurrences → Occurrences
+piece_occurrences from whole piece = record { first_later = piece.first_later; last = index_from from whole.last }
+
+-- where a piece has marks, and what is left of the text from its index on with it
+abbrev pub piece_marks : ℕ → TextMarks → TextMarks → TextMarks
+piece_marks from whole piece = record {
+  marks = piece_occurrences from whole.marks piece.marks;
+  plain_marks = piece_occurrences from whole.plain_marks piece.plain_marks;
+  vowels = piece_occurrences from whole.vowels piece.vowels;
+  letters = piece_occurrences from whole.letters piece.letters;
+}
 
 -- where a text has marks, vowels SARA AM and letters that join
 abbrev pub text_marks : Tables → List ℕ → TextMarks

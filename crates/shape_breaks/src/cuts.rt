@@ -1,12 +1,12 @@
 //! The tests of a cut.
-ghost use Rattle.std.specs.Prelude.{◌≡◌, ◌==◌, ◌↔◌, IsTrue, codes};
+ghost use Rattle.std.specs.Prelude.{◌≡◌, ◌≤◌, ◌-◌, ◌==◌, ◌↔◌, IsTrue, codes, drop, length};
 ghost use Rattle.std.specs.List.{list_any};
 ghost use Rattle.buffer_core.specs.Sides.{state_of};
 ghost use Rattle.layout_map.specs.Masks.{mask_at_one};
 ghost use Rattle.script_joining.specs.Joining.{is_mongolian};
 ghost use Rattle.shape_laws.specs.Breaks.InLine.{MayBeCutAt};
-ghost use Rattle.shape_breaks.specs.Cuts.{arabic_may_be_cut, follows_joiner, hangul_may_be_cut, has_safe_glyph, have_alike, is_inside, is_marked_after, is_marked_before, is_of, is_plain_beginning, is_unsafe_of, marks_may_be_cut, may_be_broken, may_be_cut_by, passes_at, thai_may_be_cut};
-ghost use Rattle.shape_breaks.specs.Texts.{is_above};
+ghost use Rattle.shape_breaks.specs.Cuts.{arabic_may_be_cut, follows_joiner, hangul_may_be_cut, has_safe_glyph, have_alike, is_inside, is_marked_after, is_marked_before, is_of, is_plain_beginning, is_unsafe_of, line_may_be_cut, marks_may_be_cut, may_be_broken, may_be_cut_by, passes_at, thai_may_be_cut};
+ghost use Rattle.shape_breaks.specs.Texts.{is_above, text_marks};
 
 use crate::premises::BreakPremises;
 use crate::texts::{Occurrences, TextMarks, is_above, is_mark};
@@ -14,6 +14,7 @@ use buffer_common::direction::Direction;
 use buffer_common::script::{MONGOLIAN, Script};
 use buffer_common::tag::{Tag, TagExt};
 use buffer_glyphs::info::hb_glyph_info_t;
+use buffer_unicode_tables::UnicodeTables;
 use buffer_wrappers::glyphs::GlyphBuffer;
 use script_categories::hb_ot_script_shaper_t::{
     ARABIC_SHAPER, HANGUL_SHAPER, HEBREW_SHAPER, MYANMAR_ZAWGYI_SHAPER, THAI_SHAPER,
@@ -43,6 +44,57 @@ pub fn may_be_broken(
     is_inside(text, at)
         && (premises.is_lawful && premises.keeps_marks)
         && may_be_cut_by(plan, premises, text, marks, at)
+}
+
+/// Whether what is left of a text from an index on may be broken before the character at another one: the second cut of a
+/// line that was cut out of a paragraph. `marks` are those of the text. It walks the piece between the two, so that the
+/// lines of a paragraph take a walk over its text in all.
+pub fn piece_may_be_broken(
+    premises: BreakPremises,
+    plan: &hb_ot_shape_plan_t<hb_ot_any_shaper_t>,
+    tables: &UnicodeTables,
+    text: &[char],
+    marks: TextMarks,
+    from: usize,
+    at: usize,
+) -> bool
+    requires ordered { from ≤ at }
+    requires within { at ≤ length text.now }
+    requires marks { marks ≡ text_marks tables.now text.now }
+    ensures { result
+        ≡ may_be_broken premises plan.now.shaper plan.now.script_plan.direction plan.now.script_plan.script
+        (drop from text.now) (text_marks tables.now (drop from text.now)) (at - from) }
+{
+    let piece = TextMarks::of_text(tables, &text[from..at]);
+    may_be_broken(
+        premises,
+        plan,
+        &text[from..],
+        marks.piece(from, piece),
+        at - from,
+    )
+}
+
+/// Whether a line of a text, from the character at an index to that at another one, may be cut out of it: the text before
+/// the line, and what is left of the text after it. `marks` are those of the text. It walks the line alone.
+pub fn line_may_be_cut(
+    premises: BreakPremises,
+    plan: &hb_ot_shape_plan_t<hb_ot_any_shaper_t>,
+    tables: &UnicodeTables,
+    text: &[char],
+    marks: TextMarks,
+    from: usize,
+    to: usize,
+) -> bool
+    requires ordered { from ≤ to }
+    requires within { to ≤ length text.now }
+    requires marks { marks ≡ text_marks tables.now text.now }
+    ensures { result
+        ≡ line_may_be_cut premises tables.now plan.now.shaper plan.now.script_plan.direction plan.now.script_plan.script
+        text.now from to }
+{
+    (from == 0 || may_be_broken(premises, plan, text, marks, from))
+        && (to == text.len() || piece_may_be_broken(premises, plan, tables, text, marks, from, to))
 }
 
 /// Whether the plan has no feature that records tiles, which stretch words (OpenType, feature stch).

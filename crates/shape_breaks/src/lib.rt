@@ -19,7 +19,9 @@ mod premises;
 mod tables;
 mod texts;
 
-pub use cuts::{has_no_stretching, is_safe_to_break, may_be_broken};
+pub use cuts::{
+    has_no_stretching, is_safe_to_break, line_may_be_cut, may_be_broken, piece_may_be_broken,
+};
 pub use premises::BreakPremises;
 pub use tables::{keeps_marks, keeps_private_marks, keeps_types};
 pub use texts::{Occurrences, TextMarks};

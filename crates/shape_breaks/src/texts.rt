@@ -4,7 +4,7 @@ ghost use Rattle.script_joining.specs.Joining.{is_letter};
 ghost use Rattle.script_joining.specs.Types.{type_of_character};
 ghost use Rattle.buffer_properties.specs.Properties.{is_mark_character};
 ghost use Rattle.script_thai.specs.ThaiVowel.{thai_or_lao};
-ghost use Rattle.shape_breaks.specs.Texts.{first_later, has_property, is_above, is_after, is_before, is_from, is_nowhere, is_vowel_am, last_index, occurrences, text_marks};
+ghost use Rattle.shape_breaks.specs.Texts.{first_later, has_property, index_from, is_above, is_after, is_before, is_from, is_nowhere, is_vowel_am, last_index, occurrences, piece_marks, piece_occurrences, text_marks};
 
 use buffer_unicode::{CharExt, GeneralCategoryExt};
 use buffer_unicode_tables::UnicodeTables;
@@ -61,7 +61,33 @@ impl TextMarks {
     }
 }
 
+impl TextMarks {
+    /// Where a piece from an index on has marks, whose own marks are found, and what is left of the text from that index
+    /// on with it.
+    pub(crate) fn piece(self, from: usize, piece: TextMarks) -> TextMarks
+        ensures { result ≡ piece_marks from self piece }
+    {
+        TextMarks {
+            marks: self.marks.piece(from, piece.marks),
+            plain_marks: self.plain_marks.piece(from, piece.plain_marks),
+            vowels: self.vowels.piece(from, piece.vowels),
+            letters: self.letters.piece(from, piece.letters),
+        }
+    }
+}
+
 impl Occurrences {
+    /// Where a piece from an index on has such a character first after its own first one, and what is left of the text
+    /// from that index on has it last.
+    fn piece(self, from: usize, piece: Occurrences) -> Occurrences
+        ensures { result ≡ piece_occurrences from self piece }
+    {
+        Occurrences {
+            first_later: piece.first_later,
+            last: index_from(from, self.last),
+        }
+    }
+
     /// Whether the piece before an index has such a character after its first one.
     pub(crate) fn is_before(self, at: usize) -> bool
         ensures { result ≡ is_before self at }
@@ -97,6 +123,22 @@ impl Occurrences {
         ensures { result ≡ is_nowhere self }
     {
         self.last.is_none()
+    }
+}
+
+/// An index of a text in what is left of it from another index on.
+fn index_from(from: usize, index: Option<usize>) -> Option<usize>
+    ensures { result ≡ index_from from index }
+{
+    match index {
+        Some(index) => {
+            if from <= index {
+                Some(index - from)
+            } else {
+                None
+            }
+        }
+        None => None,
     }
 }
 
