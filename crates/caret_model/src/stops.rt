@@ -178,10 +178,22 @@ fn push_given(
         ++ given_carets backward ends.0 ends.1 stops.now (in_text_order backward own.now)) }
 {
     for k in 0..stops.len() {
-        let coordinate = text_item(own, backward, k);
+        let coordinate = coordinate_at(own, backward, k);
         found.push(given_caret(backward, ends, coordinate, stops[k]))?;
     }
     Ok(())
+}
+
+/// A coordinate by its index in the order of the text.
+#[tactic(auto, using(crate::proofs::TextOrder::forward_item, crate::proofs::TextOrder::backward_item))]
+fn coordinate_at(own: &[i16], backward: bool, i: usize) -> i16
+    requires { i < length own.now }
+    ensures { slice_get (in_text_order backward own.now) i ≡ Some result }
+{
+    if backward {
+        return own[own.len() - 1 - i];
+    }
+    own[i]
 }
 
 /// The caret at a stop between two carets of the text, by a coordinate from the left one of them.
