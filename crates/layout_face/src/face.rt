@@ -1,5 +1,5 @@
 //! The font's data that shaping reads (rustybuzz: hb/face.rs).
-ghost use Rattle.std.specs.Prelude.{◌≡◌, true, OnErr, OnOk, is_some, neg_ℤ, pos, ◌/◌};
+ghost use Rattle.std.specs.Prelude.{◌≡◌, true, IsOk, None, OnErr, OnOk, is_some, neg_ℤ, pos, ◌/◌};
 ghost use Rattle.std.specs.Option.{option_copied};
 ghost use Rattle.layout_common.specs.Classes.{class_of};
 ghost use Rattle.layout_common.specs.Rows.{value_of, with_value};
@@ -113,6 +113,7 @@ impl Face {
     pub fn set_nominal_glyph(&mut self, c: char, glyph: Option<u16>) -> Result<(), AllocError>
         ensures set { OnOk result (self.new ≡ with_nominal_glyph c glyph self.old) }
         ensures kept { OnErr result (self.new ≡ self.old) }
+        ensures removal { glyph ≡ None → IsOk result }
     {
         match glyph {
             Some(glyph) => self.parts.cmap.insert(CharacterRow {
@@ -136,6 +137,7 @@ impl Face {
     ) -> Result<(), AllocError>
         ensures set { OnOk result (self.new ≡ with_variation_glyph c selector glyph self.old) }
         ensures kept { OnErr result (self.new ≡ self.old) }
+        ensures removal { glyph ≡ None → IsOk result }
     {
         match glyph {
             Some(glyph) => self.parts.variants.insert(VariationRow {
