@@ -177,7 +177,3 @@ none_merged i j gs e = let none : j - i ≡ 0 = omega arith in rw none (sym (not
 pub nothing_beside : (range gs : List hb_glyph_info_t) → length range ≡ 0 → gs ≡ glyphs_merged (clusters range) gs
 nothing_beside [] gs e = sym (nothing_merged gs)
 nothing_beside (g ∷ range) gs e = cc
-
-pub nothing_before : (range gs : List hb_glyph_info_t) → length gs ≡ 0 → gs ≡ glyphs_merged (clusters range) gs
-nothing_before range [] e = refl
-nothing_before range (g ∷ gs) e = cc

@@ -15,7 +15,3 @@ next_given b c d ss xs found new whole k stop x is at more before =
     ap (λ cs. cs ++ rest) more ∙ append_assoc found (given_caret b c d x stop ∷ []) rest
     ∙ sym (ap (λ ys. found ++ given_carets b c d (stop ∷ drop (k + 1) ss) ys) given)
     ∙ sym (ap (λ ts. found ++ given_carets b c d ts (drop k xs)) stops) ∙ before
-
-pub all_given : (b : Bool) (c d : Caret) (ss : List ℕ) (xs : List ℤ) (found whole : List Caret) (k : ℕ) → length ss ≤ k → found ++ given_carets b c d (drop k ss) (drop k xs) ≡ whole → found ≡ whole
-all_given b c d ss xs found whole k past before =
-    sym (append-nil found) ∙ sym (ap (λ ts. found ++ given_carets b c d ts (drop k xs)) (drop_all k ss past)) ∙ before

@@ -22,9 +22,12 @@ use Rattle.buffer_lists.specs.declared.order.KnownOrder.{KnownOrder}
 use Rattle.buffer_lists.specs.declared.order.KnownOrder.TheVariants.{Rising}
 use Rattle.buffer_core.specs.Sides.{HasCurrent, Sides, all_glyphs, flag_requests_of, has_output_room, requests_breaks}
 use Rattle.buffer_glyphs.specs.Deleting.{sides_handed_if}
+use Rattle.buffer_glyphs.specs.Lemmas.Origins.{numbers_origins}
 use Rattle.buffer_core.specs.Merging.{with_glyph_passed, with_glyph_skipped, with_replaced_glyph, with_sides}
+use Rattle.buffer_core.proofs.MergedOrigins.{cast_self}
 use Rattle.buffer_stages.specs.Walks.{HasWalked, renumbered_first}
 use Rattle.script_hangul.specs.Alone.{IsAlone, cluster_at, is_below}
+use Rattle.buffer_facts.proofs.Numbers.{test_of_itself}
 
 -- ---- rising numbers
 
@@ -101,20 +104,14 @@ after_range m range (g ∷ gs) below above = (none_below g.cluster m range below
 abbrev united : List ℕ → Origin → Origin
 united ns o = cast (merged_number ns o.cluster) 0 o
 
-same_cluster : (n : ℕ) → (n == n) ≡ true
-same_cluster n = grind (arith, nat_tests)
-
-stays_cast : (n : ℕ) (o : Origin) → n ≡ o.cluster → cast n 0 o ≡ o
-stays_cast n o e = ap (λ k. cast k 0 o) e ∙ cond-true _ _ _ (same_cluster o.cluster)
-
 others_stay : (ns : List ℕ) (os : List Origin) → NoneIn ns os → map (united ns) os ≡ os
 others_stay ns [] none = refl
-others_stay ns (o ∷ os) none = ap₂ (λ (p : Origin) (ps : List Origin). p ∷ ps) (stays_cast (merged_number ns o.cluster) o (cond-false _ _ _ none.0)) (others_stay ns os none.1)
+others_stay ns (o ∷ os) none = ap₂ (λ (p : Origin) (ps : List Origin). p ∷ ps) (cast_self (merged_number ns o.cluster) o (cond-false _ _ _ none.0)) (others_stay ns os none.1)
 
 first_stays : (o : Origin) (ns : List ℕ) → AllAbove o.cluster ns → united (o.cluster ∷ ns) o ≡ o
 first_stays o ns above =
-    let among : has_number (o.cluster ∷ ns) o.cluster ≡ true = ap (λ b. b || has_number ns o.cluster) (same_cluster o.cluster) in
-    stays_cast (merged_number (o.cluster ∷ ns) o.cluster) o (cond-true _ _ _ among ∙ least_first o.cluster ns above)
+    let among : has_number (o.cluster ∷ ns) o.cluster ≡ true = ap (λ b. b || has_number ns o.cluster) (test_of_itself o.cluster) in
+    cast_self (merged_number (o.cluster ∷ ns) o.cluster) o (cond-true _ _ _ among ∙ least_first o.cluster ns above)
 
 -- ---- the range replaced
 
@@ -132,10 +129,6 @@ range_middle : (xs ys zs : List ℕ) (k : ℕ) → k ≡ length ys → range_of 
 range_middle xs ys zs k e =
     let n : length xs + k - length xs ≡ k = omega arith in
     ap₂ (λ j ws. take j ws) n (drop-append_seam xs (ys ++ zs)) ∙ take_at ys zs k (sym e)
-
-numbers_seen : (gs : List hb_glyph_info_t) → numbers (origins gs) ≡ clusters gs
-numbers_seen [] = refl
-numbers_seen (g ∷ gs) = ap (λ ns. g.cluster ∷ ns) (numbers_seen gs)
 
 -- the merge changes none but those that leave
 merged_alone : (bs ts rs : List hb_glyph_info_t) (g : hb_glyph_info_t) → AllAbove g.cluster (clusters ts) → NoneIn (clusters (g ∷ ts)) (origins bs) → NoneIn (clusters (g ∷ ts)) (origins rs)
@@ -155,7 +148,7 @@ replaced_origins asks level bs ts rs g count unasked unites many above before af
     let merged : List Origin = origins bs ++ ((origin_of g ∷ map (united (clusters (g ∷ ts))) (origins ts)) ++ origins rs) in
     let same : length bs ≡ length (origins bs) = sym (length-map bs origin_of) in
     let seen : numbers os ≡ clusters bs ++ (clusters (g ∷ ts) ++ clusters rs) =
-    numbers_seen (bs ++ ((g ∷ ts) ++ rs)) ∙ map-append (λ (h : hb_glyph_info_t). h.cluster) bs ((g ∷ ts) ++ rs) ∙ ap (λ ns. clusters bs ++ ns) (map-append (λ (h : hb_glyph_info_t). h.cluster) (g ∷ ts) rs) in
+    numbers_origins (bs ++ ((g ∷ ts) ++ rs)) ∙ map-append (λ (h : hb_glyph_info_t). h.cluster) bs ((g ∷ ts) ++ rs) ∙ ap (λ ns. clusters bs ++ ns) (map-append (λ (h : hb_glyph_info_t). h.cluster) (g ∷ ts) rs) in
     let b : length (clusters bs) ≡ length bs = length-map bs (λ (h : hb_glyph_info_t). h.cluster) in
     let long : count ≡ length (clusters (g ∷ ts)) = let n = length-map ts (λ (h : hb_glyph_info_t). h.cluster) in omega (arith, many, n) in
     let range : range_of (length bs) (length bs + count) (numbers os) ≡ clusters (g ∷ ts) =

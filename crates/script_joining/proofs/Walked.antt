@@ -67,11 +67,6 @@ changed_drop f i (suc k) [] lt = refl
 changed_drop f zero (suc k) (x ∷ xs) lt = refl
 changed_drop f (suc i) (suc k) (x ∷ xs) lt = changed_drop f i k xs (omega (arith, lt))
 
-changed_same : {X : Type 0} (f g : X → X) (i : ℕ) (xs : List X) → ((x : X) → f x ≡ g x) → with_one_changed f i xs ≡ with_one_changed g i xs
-changed_same f g i [] same = refl
-changed_same f g zero (x ∷ xs) same = ap (λ y. y ∷ xs) (same x)
-changed_same f g (suc i) (x ∷ xs) same = ap (λ ys. x ∷ ys) (changed_same f g i xs same)
-
 taken_suc : {X : Type 0} (xs : List X) (i : ℕ) (x : X) → Some x ≡ slice_get xs i → take (suc i) xs ≡ take i xs ++ x ∷ []
 taken_suc [] i x e = cc
 taken_suc (y ∷ xs) zero x e = ap (λ z. z ∷ []) (sym (some_same y x (sym e)))
@@ -163,7 +158,7 @@ joined_from t masks before after (x ∷ xs) =
 abbrev pub completed : Tables → List ℕ → JoiningType → JoiningType → Option Letter → ℕ → List Item → List Item
 completed t masks after before last at xs = with_last_formed masks last (nearest_or after (types_of_items t (drop at xs))) (take at xs) ++ joined_from t masks before after (drop at xs)
 
-transparent : (t : JoiningType) → is_letter t ≡ false → t ≡ T
+pub transparent : (t : JoiningType) → is_letter t ≡ false → t ≡ T
 transparent U e = absurd (let bad = e in cc)
 transparent L e = absurd (let bad = e in cc)
 transparent R e = absurd (let bad = e in cc)

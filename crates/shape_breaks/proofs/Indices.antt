@@ -8,6 +8,7 @@ use Rattle.std.proofs.lemmas.Grind.{common_steps}
 use Rattle.std.proofs.lemmas.List.{drop-drop, take-append-drop}
 use Rattle.std.proofs.lemmas.List.Folds.{list_any-append}
 use Rattle.buffer_facts.proofs.Truth.{both_true, neither_true}
+use Rattle.buffer_facts.proofs.Numbers.{more_than_none}
 use Rattle.shape_laws.specs.Breaks.Characters.{ends_with_joiner}
 use Rattle.shape_breaks.specs.Cuts.{follows_joiner, is_grapheme_joiner, passes_at}
 use Rattle.shape_breaks.specs.Texts.{first_index, first_later, is_after, is_before, is_from, is_nowhere, last_index, occurrences}
@@ -48,16 +49,13 @@ above_further n None false = refl
 
 -- ---- pieces of a text
 
-some_below : (n : ℕ) → nat_lt 0 (suc n) ≡ true
-some_below n = grind (arith, nat_tests)
-
 any_before : (p : ℕ → Bool) (n : ℕ) (us : List ℕ) → list_any p (take n us) ≡ below n (first_index p us)
 any_before p zero us = sym (below_none (first_index p us))
 any_before p (suc n) [] = refl
 any_before p (suc n) (u ∷ us) = by_test (p u) (any_before p n us)
   where
     by_test : (b : Bool) → list_any p (take n us) ≡ below n (first_index p us) → (b || list_any p (take n us)) ≡ below (suc n) (if b then Some 0 else option_map (λ i. i + 1) (first_index p us))
-    by_test true e = sym (some_below n)
+    by_test true e = sym (more_than_none n)
     by_test false e = e ∙ sym (below_further n (first_index p us))
 
 any_at_all : (p : ℕ → Bool) (us : List ℕ) → list_any p us ≡ is_some (last_index p us)

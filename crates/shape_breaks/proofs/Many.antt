@@ -15,9 +15,12 @@ use Rattle.buffer_core.specs.Sides.{state_of}
 use Rattle.buffer_parts.specs.Breaks.Concat.{SameButConcat}
 use Rattle.buffer_parts.specs.Breaks.Fragments.{as_they_stand}
 use Rattle.buffer_parts.specs.Breaks.Unsafe.{has_flagged_of, is_flagged_of}
+use Rattle.buffer_parts.proofs.BreakLemmas.Concat.{same_both, same_refl}
+use Rattle.buffer_parts.proofs.BreakLemmas.Concats.{same_trans}
 use Rattle.shape_pipeline.specs.Laws.{TextsKeepNumbers}
 use Rattle.shape_laws.specs.Breaks.InLine.{MayBeCutAt, ShowsBoth, glyph_numbers}
 use Rattle.shape_laws.specs.Breaks.SafeTexts.{SafeBreaks}
+use Rattle.shape_laws.proofs.BreakLemmas.Removed.{some_number}
 use Rattle.shape_breaks.specs.ManyCuts.{AreCutInto, CutPiece, IsCutAt, Setup, ShapedText, ShowsAll, TextsShowAllPieces, piece_results, shaping_of, standing}
 
 -- ---- the same flags
@@ -31,26 +34,9 @@ flagged_alike c (o ∷ os) (q ∷ qs) same =
     let here : is_flagged_of c o ≡ is_flagged_of c q = ap (λ n. n == c && bit_and o.flags 1 == 1) same.0 ∙ ap (λ n. q.cluster == c && n == 1) bits in
     ap (λ t. t || has_flagged_of c os) here ∙ ap (λ t. is_flagged_of c q || t) (flagged_alike c os qs same.2)
 
-same_self : (os : List Origin) → SameButConcat os os
-same_self [] = tt
-same_self (o ∷ os) = (refl, refl, same_self os)
-
-same_then : (os qs rs : List Origin) → SameButConcat os qs → SameButConcat qs rs → SameButConcat os rs
-same_then [] [] rs p q = q
-same_then [] (x ∷ qs) rs p q = absurd p
-same_then (o ∷ os) [] rs p q = absurd p
-same_then (o ∷ os) (x ∷ qs) [] p q = absurd q
-same_then (o ∷ os) (x ∷ qs) (r ∷ rs) p q = (p.0 ∙ q.0, p.1 ∙ q.1, same_then os qs rs p.2 q.2)
-
-same_both : (os qs rs ss : List Origin) → SameButConcat os qs → SameButConcat rs ss → SameButConcat (os ++ rs) (qs ++ ss)
-same_both [] [] rs ss p q = q
-same_both [] (x ∷ qs) rs ss p q = absurd p
-same_both (o ∷ os) [] rs ss p q = absurd p
-same_both (o ∷ os) (x ∷ qs) rs ss p q = (p.0, p.1, same_both os qs rs ss p.2 q)
-
 same_standing : (falls : Bool) (os rs ss : List Origin) → SameButConcat rs ss → SameButConcat (as_they_stand falls os rs) (as_they_stand falls os ss)
-same_standing false os rs ss p = same_both os os rs ss (same_self os) p
-same_standing true os rs ss p = same_both rs ss os os p (same_self os)
+same_standing false os rs ss p = same_both os os rs ss (same_refl os) p
+same_standing true os rs ss p = same_both rs ss os os p (same_refl os)
 
 -- ---- what is left of a text after its first piece
 
@@ -79,10 +65,6 @@ order_standing false xs ys order = chain_right (λ m n. m ≤ n) xs ys order
 order_standing true xs ys order = chain_left (λ m n. n ≤ m) ys xs order
 
 -- ---- cuts rise
-
-some_number : (os : List Origin) → 0 < length os → (n : ℕ) × Has (numbers os) n
-some_number [] some = absurd (omega (arith, some))
-some_number (o ∷ os) some = (o.cluster, has_here o.cluster (numbers os))
 
 module _ (s : Setup) where
   abbrev Text : Type 0
@@ -126,7 +108,7 @@ module _ (law : SafeBreaks) (keeps : TextsKeepNumbers) (s : Setup) (falls : Bool
 
   all_shown : (whole last : ShapedText s) (qs : List (CutPiece s)) → AreCutInto s whole qs last → All (λ (q : CutPiece s). MayBeCutAt q.cut (shown whole)) qs → IsInOrder falls (numbers (shown whole).origins)
       → ShowsAll falls (shown whole) (piece_results s qs) (shown last)
-  all_shown whole last [] cuts may order = subst (λ (t : ShapedText s). ShowsAll falls (shown whole) [] (shown t)) cuts (record { glyphs = refl; positions = refl; clusters = refl; flags = same_self (shown whole).origins })
+  all_shown whole last [] cuts may order = subst (λ (t : ShapedText s). ShowsAll falls (shown whole) [] (shown t)) cuts (record { glyphs = refl; positions = refl; clusters = refl; flags = same_refl (shown whole).origins })
   all_shown whole last (q ∷ qs) cuts may order =
       let rest = cuts.0 in
       let cut = cuts.1.0 in
@@ -143,7 +125,7 @@ module _ (law : SafeBreaks) (keeps : TextsKeepNumbers) (s : Setup) (falls : Bool
         glyphs = both.glyphs ∙ ap (as_they_stand falls (glyph_numbers early.view.items)) others.glyphs;
         positions = both.positions ∙ ap (as_they_stand falls early.view.positions) others.positions;
         clusters = both.clusters ∙ ap (as_they_stand falls (numbers early.origins)) others.clusters;
-        flags = same_then (shown whole).origins (as_they_stand falls early.origins left.origins) (standing falls (map (λ (r : BufferState). r.origins) (piece_results s (q ∷ qs))) (shown last).origins) both.flags
+        flags = same_trans (shown whole).origins (as_they_stand falls early.origins left.origins) (standing falls (map (λ (r : BufferState). r.origins) (piece_results s (q ∷ qs))) (shown last).origins) both.flags
             (same_standing falls early.origins left.origins (standing falls (map (λ (r : BufferState). r.origins) (piece_results s qs)) (shown last).origins) others.flags);
       }
 

@@ -4,9 +4,8 @@ use Rattle.std.specs.Prelude.{find, option_map}
 use Rattle.std.specs.List.{list_all}
 use Rattle.std.specs.Option.{option_map_or, option_or}
 use Rattle.std.proofs.lemmas.Bool.Decides.{nat_tests}
-use lib.Utf8.{scalar}
 use Rattle.buffer_facts.proofs.Numbers.{test_of_apart}
-use Rattle.buffer_facts.proofs.Truth.{and_true, both_true, false_by_not, lacks_first}
+use Rattle.buffer_facts.proofs.Truth.{and_true, both_true, false_by_not, lacks_first, lacks_second}
 use Rattle.buffer_unicode.specs.Keys.{follows, row_fault}
 use Rattle.buffer_unicode.specs.Numbers.{is_scalar}
 use Rattle.buffer_unicode.specs.Rows.{is_character_class_in_range, is_character_range_in_range, is_counterpart_in_range, is_indic_row_in_range, is_joining_row_in_range, is_pair_in_range, is_split_in_range, is_thai_row_in_range, is_universal_row_in_range}
@@ -21,6 +20,7 @@ use Rattle.layout_face.specs.Glyphs.{row_of_characters, variation_glyph}
 use Rattle.layout_face.specs.declared.parts.FaceParts.{FaceParts}
 use Rattle.layout_face.specs.declared.parts.VariationRow.{VariationRow}
 use Rattle.shape_breaks.specs.Tables.{HaveNoFault, is_of_other}
+use lib.Utf8.{scalar}
 
 -- ---- rows
 
@@ -114,17 +114,13 @@ no_thai t u action h none =
     ap (option_map (λ (r : ThaiRow). (r.first, r.second))) (rows_lack is_thai_row_in_range (λ r. r.character) (λ r. r.action) (λ r. r.character == u && r.action == action) None t.thai
     (λ r e. lacks_first (r.character == u) (r.action == action) (apart r.character u (thai_parts r e).0 none)) (sound_is t h).thai)
 
-lacks_last : (a b : Bool) → b ≡ false → (a && b) ≡ false
-lacks_last true b e = e
-lacks_last false b e = refl
-
 not_above : (m n : ℕ) → nat_lt m 4 ≡ true → 4 ≤ n → (m == n) ≡ false
 not_above m n e le = test_of_apart m n (λ f. absurd (let less : m < 4 = grind (arith, nat_tests, e) in omega (arith, less, le, f)))
 
 pub no_action : (t : Tables) (u action : ℕ) → HaveNoFault t → 4 ≤ action → thai_of t u action ≡ None
 no_action t u action h le =
     ap (option_map (λ (r : ThaiRow). (r.first, r.second))) (rows_lack is_thai_row_in_range (λ r. r.character) (λ r. r.action) (λ r. r.character == u && r.action == action) None t.thai
-    (λ r e. lacks_last (r.character == u) (r.action == action) (not_above r.action action (thai_parts r e).1 le)) (sound_is t h).thai)
+    (λ r e. lacks_second (r.character == u) (r.action == action) (not_above r.action action (thai_parts r e).1 le)) (sound_is t h).thai)
 
 -- ---- U+034F
 

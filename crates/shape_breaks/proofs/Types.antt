@@ -15,8 +15,9 @@ use Rattle.buffer_lists.specs.Lemmas.KeyOrder.{all_below, by_key_moves}
 use Rattle.script_categories.specs.declared.joining_types.hb_arabic_joining_type_t.TheVariants.{U, L, R, D, GroupAlaph, GroupDalathRish, T, X}
 use Rattle.script_joining.specs.Joining.{is_letter}
 use Rattle.script_joining.specs.Types.{JoiningType, type_of_character}
+use Rattle.script_joining.proofs.Walked.{transparent}
 use Rattle.shape_laws.specs.Breaks.Types.{AreSeenAs, Ends, HalvesKeepType, ends_joined, ends_of, ends_of_one, joins_nothing, type_of_half}
-use Rattle.shape_laws.proofs.BreakLemmas.Ends.{ends_both, first_or, joined_assoc, joined_none, last_or, no_letter, quiet_ends, quiet_one, two_seen}
+use Rattle.shape_laws.proofs.BreakLemmas.Ends.{ends_both, first_or, joined_assoc, joined_none, last_or, no_letter, quiet_ends, quiet_one, two_seen, quiet_two}
 
 -- the ends of characters
 abbrev ends : Tables → List ℕ → Ends
@@ -66,11 +67,6 @@ Quiet t u = joins_nothing (type_of_character t u) ≡ true
 abbrev is_letter_character : Tables → ℕ → Bool
 is_letter_character t u = is_letter (type_of_character t u)
 
-quiet_two : (a b : Bool) → ends_joined (quiet_ends a) (quiet_ends b) ≡ quiet_ends (a || b)
-quiet_two true true = refl
-quiet_two true false = refl
-quiet_two false b = refl
-
 quiet_all : (t : Tables) (us : List ℕ) → All (Quiet t) us → ends t us ≡ quiet_ends (list_any (is_letter_character t) us)
 quiet_all t [] h = refl
 quiet_all t (u ∷ us) h =
@@ -105,16 +101,6 @@ order_ends t run (u ∷ us) keeps h = by_test (class_of t u == 0) refl (order_en
 
 -- ---- compositions
 
-only_transparent : (s : JoiningType) → is_letter s ≡ false → s ≡ T
-only_transparent U e = cc
-only_transparent L e = cc
-only_transparent R e = cc
-only_transparent D e = cc
-only_transparent GroupAlaph e = cc
-only_transparent GroupDalathRish e = cc
-only_transparent T e = refl
-only_transparent X e = cc
-
 -- two characters with the ends of one are seen as it
 seen_from : (w s t : JoiningType) → ends_joined (ends_of_one s) (ends_of_one t) ≡ ends_of_one w → AreSeenAs w s t
 seen_from w s t h = by_three (is_letter s) (is_letter t) (is_letter w) refl refl refl h
@@ -124,7 +110,7 @@ seen_from w s t h = by_three (is_letter s) (is_letter t) (is_letter w) refl refl
     by_three true true true e f g k = (ap (first_or s) k, ap (last_or t) k)
     by_three true false true e f g k = (ap (first_or s) k, ap (first_or s) k)
     by_three false true true e f g k = (ap (last_or t) k, ap (last_or t) k)
-    by_three false false false e f g k = (only_transparent t f ∙ sym (only_transparent w g), only_transparent s e ∙ sym (only_transparent w g))
+    by_three false false false e f g k = (transparent t f ∙ sym (transparent w g), transparent s e ∙ sym (transparent w g))
     by_three true true false e f g k = cc
     by_three true false false e f g k = cc
     by_three false true false e f g k = cc

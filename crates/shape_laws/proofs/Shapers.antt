@@ -55,7 +55,7 @@ split_guarded : (b : Bool) (o p : Option (ℕ × ℕ)) → o ≡ p → (b ≡ fa
 split_guarded true o p e n = e
 split_guarded false o p e n = sym (n refl)
 
-pair_guarded : (b : Bool) (o : Option ℕ) (u : ℕ) → (if b then o else None) ≡ Some u → o ≡ Some u
+pub pair_guarded : (b : Bool) (o : Option ℕ) (u : ℕ) → (if b then o else None) ≡ Some u → o ≡ Some u
 pair_guarded true o u e = e
 pair_guarded false o u e = cc
 

@@ -43,6 +43,7 @@ use Rattle.shape_parts.proofs.Characters.{circle_view, prepared_many}
 use Rattle.shape_parts.proofs.Graphemes.{graphemes_are_known}
 use Rattle.shape_parts.proofs.GraphemeNumbers.{circle_brings_none, groups_are_all, merges_leave_first, singles_are_first, total}
 use Rattle.shape_parts.proofs.Texts.{left_by, pushed_clusters, pushed_rise, result_clusters}
+use Rattle.shape_parts.proofs.Parts.{read_as}
 use Rattle.buffer_core.proofs.Apart.{items_from as pushed_items}
 
 -- ---- readings that leave numbers of a set
@@ -206,10 +207,6 @@ read_leaves p ns v asks os r law rise many e =
     let s = grapheme_numbers p.tables v.items (numbers os) in
     first_leaves s asks os (before_ranges p v) (in_order (ranges_set p ns ∷ after_ranges p ∷ [])) r e
     (λ b f. first_leaves s asks os (text_begun p v) (in_order (characters_chosen p ∷ masks_set p ∷ [])) b f (λ c g. begun p v asks os c law rise many g))
-
-read_as : (p : Shaping) (text : BufferState) → reading p text ≡ shaping_stage p (clusters_after (before_ranges p text.view) text) text.view
-unfolding reading
-read_as p text = refl
 
 no_origins : (os : List Origin) → length os ≡ 0 → (s : List ℕ) → BringsNone s (numbers os)
 no_origins [] e s = λ n h. cc

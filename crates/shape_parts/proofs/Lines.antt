@@ -41,7 +41,7 @@ use Rattle.shape_parts.specs.Laws.{ClustersStandInLine}
 use Rattle.shape_parts.proofs.Begun.{begun_texts_keep_parts, line_of}
 use Rattle.shape_parts.proofs.Chains.{IsOfChains, chain_has, wanted_has}
 use Rattle.shape_parts.proofs.Directions.{positioning_direction, substitution_direction}
-use Rattle.shape_parts.proofs.Parts.{positioned_stays, texts_have_parts}
+use Rattle.shape_parts.proofs.Parts.{positioned_stays, texts_have_parts, read_as}
 use Rattle.shape_parts.proofs.Phases.{AreShaping, before_have, positions_adjusted_have, positions_begun_have, ranges_have, substituted_have, taken_have}
 
 -- ---- up to the visual order
@@ -142,10 +142,6 @@ shaping_draws p clusters h d =
     (fall_then_draws (ranges_set p clusters) (in_order (after_ranges p ∷ [])) (ranges_have KeepsFall p clusters (shaping_fall p h d)) (last_draws (after_ranges p) (after_draws p h d)))
 
 -- ---- a text
-
-read_as : (p : Shaping) (text : BufferState) → reading p text ≡ shaping_stage p (clusters_after (before_ranges p text.view) text) text.view
-unfolding reading
-read_as p text = refl
 
 forward_falls : (d : Direction) → falls_on_line false d ≡ is_backward d
 forward_falls d = by_test (is_backward d)

@@ -112,7 +112,7 @@ read_by : (stage : Stage) (p : Shaping) (text : BufferState) (r : Read) (falls :
     → HaveParts falls text.asks text.level (r.events text.level) text.origins × (length (state_after r text).origins ≡ length r.view.items)
 read_by stage p text r falls keeps e h = runs_have_parts stage text r falls keeps h.level e h.counted h.order
 
-read_as : (p : Shaping) (text : BufferState) → reading p text ≡ shaping_stage p (clusters_after (before_ranges p text.view) text) text.view
+pub read_as : (p : Shaping) (text : BufferState) → reading p text ≡ shaping_stage p (clusters_after (before_ranges p text.view) text) text.view
 unfolding reading
 read_as p text = refl
 

@@ -176,7 +176,7 @@ deletes_before (Reset ∷ es) fs h = deletes_before es fs h
 abbrev IsBeforeBoth : ℕ → Option ℕ → Option ℕ → Type 0
 IsBeforeBoth n near far = (from : ℕ) → near ≡ Some from → far ≡ Some (n + from)
 
-none_both : (n : ℕ) (far : Option ℕ) → IsBeforeBoth n None far
+pub none_both : (n : ℕ) (far : Option ℕ) → IsBeforeBoth n None far
 none_both n far from e = cc
 
 some_both : (n from : ℕ) → IsBeforeBoth n (Some from) (Some (n + from))
@@ -207,9 +207,6 @@ first_stays n near far (Concat from to ∷ es) some both h k d = first_stays n N
 first_stays n near far (Tatweel from to ∷ es) some both h k d = first_stays n None None es some (none_both n None) h k d
 first_stays n near far (Spread ∷ es) some both h k d = first_stays n None None es some (none_both n None) h k d
 first_stays n near far (Reset ∷ es) some both h k d = first_stays n None None es some (none_both n None) h k d
-
-pub nothing_before : (n : ℕ) (far : Option ℕ) → IsBeforeBoth n None far
-nothing_before n far = none_both n far
 
 -- ---- what all rules do
 

@@ -34,7 +34,7 @@ use Rattle.layout_laws.proofs.BreakLemmas.Words.{number_named, component_named}
 use Rattle.layout_laws.proofs.BreakLemmas.Blind.{answer_blind}
 use Rattle.layout_laws.proofs.BreakLemmas.Singles.{same_test, none_named}
 use Rattle.layout_laws.proofs.BreakLemmas.Frames.{front_long, backward_framed, given_both}
-use Rattle.layout_laws.proofs.BreakLemmas.Matching.{searches_from_agree}
+use Rattle.layout_laws.proofs.BreakLemmas.Matching.{searches_from_agree, none_before}
 use Rattle.layout_laws.proofs.BreakLemmas.Outcomes.{at_first_local}
 use Rattle.layout_laws.proofs.BreakLemmas.Placed.{change_around, near_farther, link_farther, leads_set, acted_beside, range_same, item_named}
 use Rattle.layout_laws.proofs.BreakLemmas.Components.{item_given as given_at}
@@ -115,10 +115,6 @@ rises_by_test false at i r h e = let up = h e in omega (arith, up)
 taken_rises : (takes : Item → Option Item → Bool) (at i : ℕ) (xs : List Item) → nearest_taken takes at xs ≡ Ok i → at ≤ i
 taken_rises takes at i [] e = cc
 taken_rises takes at i (x ∷ xs) e = rises_by_test (takes x (first_of xs)) at i (nearest_taken takes (at + 1) xs) (λ h. taken_rises takes (at + 1) i xs h) e
-
-none_before : (n : ℕ) (r : Result ℕ ℕ) (end : ℕ) → ((i : ℕ) → r ≡ Ok i → n ≤ i) → FindsSame n r (Err end)
-none_before n (Ok i) end h = h i refl
-none_before n (Err far) end h = tt
 
 same_by_test : (b : Bool) (at n : ℕ) (r s : Result ℕ ℕ) → at < n → FindsSame n r s → FindsSame n (if b then Ok at else r) (if b then Ok at else s)
 same_by_test true at n r s lt h = (refl, lt)

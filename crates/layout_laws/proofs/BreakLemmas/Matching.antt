@@ -17,7 +17,7 @@ pub search_rises : (ask : Item → match_t) (at index : ℕ) (xs : List Item) �
 search_rises ask at index [] e = cc
 search_rises ask at index (x ∷ xs) e = rises_by_answer (ask x) at index (nearest ask (at + 1) xs) (λ h. search_rises ask (at + 1) index xs h) e
 
-none_before : (n : ℕ) (r : Result ℕ ℕ) (end : ℕ) → ((i : ℕ) → r ≡ Ok i → n ≤ i) → FindsSame n r (Err end)
+pub none_before : (n : ℕ) (r : Result ℕ ℕ) (end : ℕ) → ((i : ℕ) → r ≡ Ok i → n ≤ i) → FindsSame n r (Err end)
 none_before n (Ok i) end h = h i refl
 none_before n (Err far) end h = tt
 

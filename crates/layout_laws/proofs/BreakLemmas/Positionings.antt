@@ -27,7 +27,7 @@ use Rattle.layout_laws.proofs.BreakLemmas.Records.{SpendsAt, NestLocal}
 use Rattle.layout_laws.proofs.BreakLemmas.Contexts.{context_local}
 use Rattle.layout_laws.proofs.BreakLemmas.Rules.{met_local_or_idle}
 use Rattle.layout_laws.proofs.BreakLemmas.Lookups.{by_spending, spending_substituted}
-use Rattle.layout_laws.proofs.BreakLemmas.Steady.{Consumes, IsConsuming, item_consumes, test_consumes}
+use Rattle.layout_laws.proofs.BreakLemmas.Steady.{Consumes, IsConsuming, item_consumes, test_consumes, step_from}
 use Rattle.layout_laws.proofs.BreakLemmas.Lossless.{LosesNone, by_losing, losing_substituted}
 use Rattle.layout_laws.proofs.BreakLemmas.Placed.{placed_of_whole}
 use Rattle.layout_laws.proofs.BreakLemmas.Pairs.{single_local, pairs_local}
@@ -105,11 +105,6 @@ lookup_consumes : (table : List PositioningLookup) (d : Direction) (a : ApplyCon
 lookup_consumes table d a lookup = item_consumes (at_met a (first_subtable (nested_actions table 64 d a) d a lookup.subtables)) (λ c x xs.
     let e : Cut = record c { rest = x ∷ xs } in
     test_consumes e (meets a x) (first_subtable (nested_actions table 64 d a) d a lookup.subtables e) (Passes []) (subtables_consume (nested_actions table 64 d a) d a lookup.subtables e (omega arith)) refl)
-
-step_from : (c : Cut) (o : Outcome) → Consumes c o → SpendsAt c o → OutcomeKeepsParts o (length (whole c)) → Steps c o
-step_from c (Passes es) h s k = h
-step_from c (Acts d es) h s k = record { fewer = h; spends = s.0; gives = s.1; counted = count_without es (length (whole c)) ∙ (k MonotoneGraphemes).counted }
-step_from c (Refuses x) h s k = tt
 
 pub positionings_are_steady : PositioningsAreSteady
 positionings_are_steady table d a lookup c some =

@@ -46,7 +46,7 @@ use Rattle.layout_laws.proofs.BreakLemmas.Backward.{reverses_are_divisible}
 use Rattle.layout_laws.proofs.BreakLemmas.InOrder.{nothing_divisible}
 use Rattle.layout_laws.proofs.BreakLemmas.ItemMaps.{item_maps_are_divisible}
 use Rattle.layout_laws.proofs.BreakLemmas.Stages.{own_random_is_divisible}
-use Rattle.layout_laws.proofs.BreakLemmas.Deletions.{AreFlaggedDeletions, flagged_rest, first_stays, nothing_before, first_kept, one_own, same_word, IsOwnRead, forward_owns}
+use Rattle.layout_laws.proofs.BreakLemmas.Deletions.{AreFlaggedDeletions, flagged_rest, first_stays, first_kept, one_own, same_word, IsOwnRead, forward_owns, none_both}
 use Rattle.layout_laws.proofs.BreakLemmas.PositionsInOrder.{read_in_turn, both_spared, state_of_both}
 use Rattle.layout_laws.proofs.BreakLemmas.PositionStages.{with_random, own_read, own_state, own_spared, random_divides, random_breaks}
 use Rattle.buffer_parts.specs.Lemmas.Stages.{same_read as read_same}
@@ -148,7 +148,7 @@ second_own level n before v u r second some same text h own = elim (h.own own) [
   | inl stays ↦ stays
   | inr gone ↦
       let after = flagged_rest None before (map (shifted_event n) (without_concats (second.events level))) (subst (AreFlaggedDeletions None) same text.flagged) in
-      absurd (first_stays n None after.0 (without_concats (second.events level)) some (nothing_before n after.0) h.flagged after.1 gone)
+      absurd (first_stays n None after.0 (without_concats (second.events level)) some (none_both n after.0) h.flagged after.1 gone)
 ]
 
 some_left : (level : BufferClusterLevel) (n : ℕ) (r : Read) → IsReadAlone level n r → 0 < count_after (without_concats (r.events level)) n

@@ -44,6 +44,7 @@ use Rattle.layout_laws.specs.Breaks.LookupLaws.{LookupsAreSteady}
 use Rattle.buffer_parts.specs.Rules.{OutcomeKeepsParts}
 use Rattle.layout_laws.proofs.Lemmas.Substitutions.{forward_related}
 use Rattle.layout_laws.proofs.Lemmas.KeptRules.{by_parts, substituted_by_parts}
+use Rattle.layout_laws.proofs.Lemmas.LigatureLengths.{after_length}
 use Rattle.layout_positioning.proofs.Left.{cut_whole}
 
 -- ---- rules that leave fewer items
@@ -114,22 +115,6 @@ break_consumes c from to gdef glyph x xs a e f = by_test (nat_le (length a.front
     by_test true = fewer
     by_test false = tt
 
-following_long : (id last ended own : ℕ) (ys : List Item) → length (following_items id last ended own ys) ≡ length ys
-following_long id last ended own [] = refl
-following_long id last ended own (y ∷ ys) = by_test ((lig_id y == last) && not (lig_comp y == 0)) (following_long id last ended own ys)
-  where
-    by_test : (t : Bool) → length (following_items id last ended own ys) ≡ length ys → length (if t then with_component id ended own y ∷ following_items id last ended own ys else y ∷ ys) ≡ suc (length ys)
-    by_test true e = ap (λ (n : ℕ). suc n) e
-    by_test false e = refl
-
-after_long : (parts : List Item) (id : ℕ) (o : Option Item) (rest : List Item) → length (after_components parts id o rest) ≡ length rest
-after_long parts id None rest = refl
-after_long parts id (Some last) rest = by_test (are_marks parts || (lig_id last == 0))
-  where
-    by_test : (t : Bool) → length (if t then rest else following_items id (lig_id last) (component_count parts) (lig_num_comps last) rest) ≡ length rest
-    by_test true = refl
-    by_test false = following_long id (lig_id last) (component_count parts) (lig_num_comps last) rest
-
 found_consumes : (a : ApplyContext) (l : LigatureTable) (c : Cut) (x : Item) (xs : List Item) (o : Result ℕ ℕ) → input_end (own_search a (x ∷ xs)) (map is_glyph l.components) (x ∷ xs) ≡ o → Consumes (record c { rest = x ∷ xs }) (ligature_found a l o (record c { rest = x ∷ xs }))
 found_consumes a l c x xs (Err end) e = refl
 found_consumes a l c x xs (Ok end) e =
@@ -137,7 +122,7 @@ found_consumes a l c x xs (Ok end) e =
     let places = input_indices (own_search a (x ∷ xs)) (map is_glyph l.components) (x ∷ xs) in
     let parts = items_at places (x ∷ xs) in
     let rest = after_components parts (own_number parts c.lig_id) (slice_get (x ∷ xs) (last_index places)) (drop end (x ∷ xs)) in
-    let fewer : length rest < length {A = Item} (x ∷ xs) = omega (arith, after_long parts (own_number parts c.lig_id) (slice_get (x ∷ xs) (last_index places)) (drop end (x ∷ xs)), length-drop end (x ∷ xs), lies.rises) in
+    let fewer : length rest < length {A = Item} (x ∷ xs) = omega (arith, after_length parts (own_number parts c.lig_id) (slice_get (x ∷ xs) (last_index places)) (drop end (x ∷ xs)), length-drop end (x ∷ xs), lies.rises) in
     limit_consumes _ (record c { rest = x ∷ xs }) (record c { rest = x ∷ xs }) (Acts _ _) fewer
 
 over_consumes : (a : ApplyContext) (l : LigatureTable) → IsConsumingAt (λ x. ligature_over a l)
@@ -268,7 +253,7 @@ lookup_consumes table a lookup = item_consumes (at_met a (first_subtable (nested
 
 -- ---- steps
 
-step_from : (c : Cut) (o : Outcome) → Consumes c o → SpendsAt c o → OutcomeKeepsParts o (length (whole c)) → Steps c o
+pub step_from : (c : Cut) (o : Outcome) → Consumes c o → SpendsAt c o → OutcomeKeepsParts o (length (whole c)) → Steps c o
 step_from c (Passes es) h s k = h
 step_from c (Acts d es) h s k = record { fewer = h; spends = s.0; gives = s.1; counted = count_without es (length (whole c)) ∙ (k MonotoneGraphemes).counted }
 step_from c (Refuses x) h s k = tt

@@ -95,7 +95,7 @@ following_length id last ended own (y ∷ ys) = by_test ((lig_id y == last) && n
     by_test true e = ap (λ (n : ℕ). suc n) e
     by_test false e = refl
 
-after_length : (parts : List Item) (id : ℕ) (o : Option Item) (rest : List Item) → length (after_components parts id o rest) ≡ length rest
+pub after_length : (parts : List Item) (id : ℕ) (o : Option Item) (rest : List Item) → length (after_components parts id o rest) ≡ length rest
 after_length parts id None rest = refl
 after_length parts id (Some last) rest = by_test (are_marks parts || (lig_id last == 0))
   where

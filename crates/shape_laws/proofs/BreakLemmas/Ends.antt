@@ -112,7 +112,7 @@ quiet_one GroupDalathRish e = cc
 quiet_one T e = refl
 quiet_one X e = cc
 
-quiet_two : (a b : Bool) → ends_joined (quiet_ends a) (quiet_ends b) ≡ quiet_ends (a || b)
+pub quiet_two : (a b : Bool) → ends_joined (quiet_ends a) (quiet_ends b) ≡ quiet_ends (a || b)
 quiet_two true true = refl
 quiet_two true false = refl
 quiet_two false b = refl

@@ -34,9 +34,10 @@ use Rattle.shape_laws.proofs.BreakLemmas.Scripts.{early_rules, late_rules, order
 use Rattle.shape_laws.proofs.BreakLemmas.Seen.{FirstPlainly, IsKept, IsReady, IsSeenText, begun_first, begun_seen, kept_same, ready_apart, ready_kept, rotated_kept, seen_some}
 use Rattle.shape_laws.proofs.BreakLemmas.Stages.{begun_all, late_wants}
 use Rattle.shape_laws.proofs.BreakLemmas.Thai.{BeginsNoVowel, BeginsThai, first_stays, private_read, private_state, thai_read, vowels_begin, vowels_items, vowels_keep, vowels_state}
-use Rattle.shape_laws.proofs.BreakLemmas.ThaiRaw.{circled_marked, plain_marked, plain_unmarked, vowels_some}
+use Rattle.shape_laws.proofs.BreakLemmas.ThaiRaw.{circled_marked, plain_marked, plain_unmarked}
 use Rattle.shape_laws.proofs.BreakLemmas.ThaiTexts.{thai_begins, thai_stage, thai_texts_divide}
 use Rattle.shape_laws.proofs.BreakLemmas.ThaiMarks.{shaped_last, shaped_later, shaped_low, shaped_marks, shaped_plainly, vowels_last, vowels_low}
+use Rattle.shape_laws.proofs.BreakLemmas.Vowels.{vowels_left}
 use Rattle.script_dispatch.specs.Lemmas.Keeping.Hangul.{shaped_long as shaped_many}
 
 -- ---- private forms
@@ -71,7 +72,7 @@ vowels_ready xs zs some (inl plain) =
     record {
       low = vowels_low [] zs tt early.low;
       last = λ e. vowels_last false [] zs (early.ends e);
-      some = vowels_some zs some;
+      some = vowels_left zs some;
       later = plain_marked xs zs plain.of plain.numbers;
       none = plain_unmarked xs zs plain.of plain.numbers;
     }
@@ -80,7 +81,7 @@ vowels_ready xs zs some (inr circled) =
     record {
       low = vowels_low [] zs tt early.low;
       last = λ e. vowels_last false [] zs (early.ends e);
-      some = vowels_some zs some;
+      some = vowels_left zs some;
       later = circled_marked xs zs circled.0.of circled.0.numbers;
       none = λ h. let marked = circled.1 in let none = any_character xs ∙ h.0 in cc;
     }

@@ -15,7 +15,6 @@ use Rattle.shape_laws.specs.Breaks.ThaiCharacters.{IsMarkedText, IsUnmarkedText,
 use Rattle.shape_laws.proofs.BreakLemmas.Marks.{AreOf, marks_are}
 use Rattle.shape_laws.proofs.BreakLemmas.Thai.{none_above}
 use Rattle.shape_laws.proofs.BreakLemmas.ThaiMarks.{IsMarkedLater, is_other_mark, marked_later, vowelless_stays}
-use Rattle.shape_laws.proofs.BreakLemmas.Vowels.{vowels_left}
 use Rattle.buffer_facts.proofs.Truth.{or_true}
 use Rattle.buffer_facts.proofs.Lists.{first_equal as first_number, rest_equal as rest_numbers}
 
@@ -129,5 +128,3 @@ plain_unmarked xs zs p e h =
     any_character (y ∷ ys) = ap (λ b. is_mark_character y.number || b) (any_character ys)
 
 -- a text that has characters has items once vowels are decomposed
-pub vowels_some : (zs : List Item) → 0 < length zs → 0 < length (text_with_splits [] zs)
-vowels_some zs some = vowels_left zs some
