@@ -16,6 +16,7 @@ DEFINITION = re.compile(r"(?:pub )?(?:abbrev|unfoldable|record|data)\b")
 SIGNATURE = re.compile(r"(?:pub )?([^\W\d][\w'-]*) :(?= |$)")
 USE = re.compile(r"use ([\w.]+)\.\{(.*)\}$")
 WORD = re.compile(r"[^\W\d][\w']*")
+NAME = re.compile(r"[^\W\d][\w'-]*")
 TOKEN = re.compile(r"[^\W\d][\w']*|\d+|[^\s\w]")
 BINDER = re.compile(r"[({]([^\W\d][\w' ]*) :|λ ([^.]*)\.")
 GROUP = re.compile(r"([({]) ((?:#\d+ )+): ([^(){}]*?) ([)}])")
@@ -68,7 +69,7 @@ def lemmas_in(root: Path, crate: str, path: Path) -> Iterator[Lemma]:
         while head < end and lines[head][:1].isspace():
             head += 1
         text = " ".join([line[found.end() :], *lines[number + 1 : head]])
-        words = Counter(WORD.findall("\n".join(lines[number:end])))
+        words = Counter(NAME.findall("\n".join(lines[number:end])))
         above = comment_above(lines, number)
         yield Lemma(crate, path, number + 1, found[1], statement(text, names, own, module), end - number + above, words[found[1]])
 
@@ -146,7 +147,7 @@ def unnamed(root: Path, lemmas: list[Lemma]) -> list[Lemma]:
         for part in (*FOLDERS, "src", "must-fail"):
             for path in (folder / part).rglob("*.*"):
                 if path.suffix in (".antt", ".rt", ".edit"):
-                    words.update(WORD.findall(path.read_text(encoding="utf-8")))
+                    words.update(NAME.findall(path.read_text(encoding="utf-8")))
     return [lemma for lemma in lemmas if words[lemma.name] == lemma.own_words and is_shared(lemma)]
 
 

@@ -38,8 +38,11 @@ swapped a b = omega arith
 
 doubled : (n : ℕ) → double n ≡ double n
 doubled n = refl
+
+doubled-zero : double 0 ≡ 0
+doubled-zero = refl
 """,
-    "crates/high/proofs/lists/sort/Answers.antt": "pub returns : goal.returns\nreturns = swapped 0 0\n",
+    "crates/high/proofs/lists/sort/Answers.antt": "pub returns : goal.returns\nreturns = swapped doubled-zero 0\n",
     "crates/high/proofs/TurnedExamples.antt": "one : 1 + 2 ≡ 2 + 1\none = refl\n",
 }
 

@@ -51,9 +51,6 @@ space-digit c e = grind (arith, nat_tests)
 pub space-letter : (c : ℕ) → is_ascii_whitespace c ≡ true → is_ascii_alphabetic c ≡ false
 space-letter c e = grind (arith, nat_tests)
 
-pub space-bracket : (c : ℕ) → is_ascii_whitespace c ≡ true → (c == 91) ≡ false
-space-bracket c e = grind (arith, nat_tests)
-
 -- a letter by the small letter that it is written for
 pub letter : (c small : ℕ) → to_ascii_lowercase c ≡ small → is_ascii_alphabetic small ≡ true → is_ascii_alphabetic c ≡ true
 letter c small e l = grind (arith, nat_tests)

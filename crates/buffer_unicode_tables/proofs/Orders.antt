@@ -17,9 +17,6 @@ run_push : {X : Type 0} (class : X → ℕ) (run : List X) (x : X) → IsRun cla
 run_push class [] x r n = (n, tt)
 run_push class (y ∷ ys) x r n = (r.0, run_push class ys x r.1 n)
 
-of_key-append : {X : Type 0} (class : X → ℕ) (c : ℕ) (xs ys : List X) → of_key class c (xs ++ ys) ≡ of_key class c xs ++ of_key class c ys
-of_key-append class c xs ys = filter-append (λ x. class x == c) xs ys
-
 pub beside_starters-append : {X : Type 0} (class : X → ℕ) (c : ℕ) (xs ys : List X) → beside_starters class c (xs ++ ys) ≡ beside_starters class c xs ++ beside_starters class c ys
 beside_starters-append class c xs ys = filter-append (λ x. class x == 0 || class x == c) xs ys
 
