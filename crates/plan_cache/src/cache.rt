@@ -1,15 +1,14 @@
 //! Plans for texts in turn.
 //!
 //! The clauses of `shape` (`shape_pipeline`) stand here again, since a cache answers what that call answers.
-ghost use Rattle.std.specs.Prelude.{◌≡◌, ◌≢◌, ◌≤◌, ◌<◌, ◌-◌, ◌+◌, ◌++◌, ◌⊎◌, Err, IfErr, IfOk, IsErrAnd, MatchOption, Ok, OnErr, OnOk, [], drop, false, length, slice_index_or};
+ghost use Rattle.std.specs.Prelude.{◌≡◌, ◌≢◌, ◌≤◌, ◌<◌, ◌-◌, ◌+◌, ◌++◌, ◌⊎◌, IfErr, IfOk, IsErrAnd, MatchOption, Ok, OnErr, OnOk, [], drop, false, length, slice_index_or};
 ghost use Rattle.std.specs.List.{All, remove, slice_range};
-ghost use Rattle.shape_pipeline.specs.buffer_core.Readings.{Follows};
 ghost use Rattle.shape_pipeline.specs.buffer_core.Segment.{after_guess_segment_properties};
 ghost use Rattle.shape_pipeline.specs.buffer_core.Settings.{after_leave};
-ghost use Rattle.shape_pipeline.specs.buffer_core.Sides.{all_glyphs, empty_buffer, state_of};
+ghost use Rattle.shape_pipeline.specs.buffer_core.Sides.{all_glyphs, empty_buffer};
 ghost use Rattle.shape_pipeline.specs.buffer_wrappers.Wrappers.{IsText};
-ghost use Rattle.shape_pipeline.specs.Results.{IsResultOf};
-ghost use Rattle.shape_pipeline.specs.Shaped.{by_text, text_reading};
+ghost use Rattle.shape_pipeline.specs.Results.{IsRefusedFor, IsResultOf, IsShapedBy};
+ghost use Rattle.shape_pipeline.specs.Shaped.{by_text};
 ghost use Rattle.plan_cache.specs.Cache.{EndsServing, IsAfter, IsCacheOf, IsServing, ServeNot, with_plan_used, with_plan_added};
 ghost use Rattle.plan_cache.specs.Cached.{HasTagsOf};
 
@@ -85,14 +84,14 @@ impl PlanCache {
         ensures used { all_glyphs buffer ≢ []
             → IsAfter (L.tags_of shape_data.entry.languages.now) features.now buffer self.old self.new
             ⊎ (self.new ≡ self.old) × IsErrAnd result (λ e. e.cause ≡ ShapeCause.OutOfMemory) }
-        ensures ok { IfOk result (λ glyphs. Follows
-            (text_reading (by_text face.now shape_data.entry.tables.now (L.tags_of shape_data.entry.languages.now)
-            (P.span_of shape_data.entry.spans.now) features.now
-            (after_guess_segment_properties buffer)) (state_of (after_guess_segment_properties buffer))) (state_of (after_guess_segment_properties buffer)) (state_of glyphs)) }
-        ensures refused { IfErr result (λ e. e.cause ≢ ShapeCause.OutOfMemory → text_reading
+        ensures ok { IfOk result (IsShapedBy
             (by_text face.now shape_data.entry.tables.now (L.tags_of shape_data.entry.languages.now)
-            (P.span_of shape_data.entry.spans.now) features.now
-            (after_guess_segment_properties buffer)) (state_of (after_guess_segment_properties buffer)) ≡ Err e.cause) }
+            (P.span_of shape_data.entry.spans.now) features.now (after_guess_segment_properties buffer))
+            (after_guess_segment_properties buffer)) }
+        ensures refused { IfErr result (λ e. IsRefusedFor
+            (by_text face.now shape_data.entry.tables.now (L.tags_of shape_data.entry.languages.now)
+            (P.span_of shape_data.entry.spans.now) features.now (after_guess_segment_properties buffer))
+            (after_guess_segment_properties buffer) e.cause) }
         ensures cleared { IfErr result (λ e. e.buffer ≡ empty_buffer) }
         ensures empty { all_glyphs buffer ≡ [] → result ≡ Ok (after_leave (after_guess_segment_properties buffer)) }
         ensures handed_on { IfOk result (λ glyphs. IsResultOf (after_guess_segment_properties buffer) glyphs) }
@@ -125,14 +124,14 @@ impl PlanCache {
         ensures used { all_glyphs buffer.old ≢ []
             → IsAfter (L.tags_of shape_data.entry.languages.now) features.now buffer.old self.old self.new
             ⊎ (self.new ≡ self.old) × IsErrAnd result (λ e. e ≡ ShapeCause.OutOfMemory) }
-        ensures ok { OnOk result (Follows
-            (text_reading (by_text face.now shape_data.entry.tables.now (L.tags_of shape_data.entry.languages.now)
-            (P.span_of shape_data.entry.spans.now) features.now
-            (after_guess_segment_properties buffer.old)) (state_of (after_guess_segment_properties buffer.old))) (state_of (after_guess_segment_properties buffer.old)) (state_of buffer.new)) }
-        ensures refused { IfErr result (λ e. e ≢ ShapeCause.OutOfMemory → text_reading
+        ensures ok { OnOk result (IsShapedBy
             (by_text face.now shape_data.entry.tables.now (L.tags_of shape_data.entry.languages.now)
-            (P.span_of shape_data.entry.spans.now) features.now
-            (after_guess_segment_properties buffer.old)) (state_of (after_guess_segment_properties buffer.old)) ≡ Err e) }
+            (P.span_of shape_data.entry.spans.now) features.now (after_guess_segment_properties buffer.old))
+            (after_guess_segment_properties buffer.old) buffer.new) }
+        ensures refused { IfErr result (IsRefusedFor
+            (by_text face.now shape_data.entry.tables.now (L.tags_of shape_data.entry.languages.now)
+            (P.span_of shape_data.entry.spans.now) features.now (after_guess_segment_properties buffer.old))
+            (after_guess_segment_properties buffer.old)) }
         ensures cleared { OnErr result (buffer.new ≡ empty_buffer) }
         ensures empty { all_glyphs buffer.old ≡ []
             → (result ≡ Ok tt) × (buffer.new ≡ after_leave (after_guess_segment_properties buffer.old)) }

@@ -1,6 +1,7 @@
 -- What a text hands on to the glyphs that it is shaped to.
-use Rattle.std.specs.Prelude.{◌≡◌, ◌↔◌, false, length, Err}
+use Rattle.std.specs.Prelude.{◌≡◌, ◌≢◌, ◌↔◌, false, length, Err}
 use Rattle.buffer_glyphs.specs.declared.cause.ShapeCause.{ShapeCause}
+use Rattle.buffer_glyphs.specs.declared.cause.ShapeCause.TheVariants.{OutOfMemory}
 use Rattle.buffer_core.specs.Readings.{Follows}
 use Rattle.buffer_common.specs.declared.direction.Direction.{Direction}
 use Rattle.buffer_core.specs.Settings.{after_leave}
@@ -31,6 +32,10 @@ IsShapedBy p text result = Follows (text_reading p (state_of text)) (state_of te
 -- the text's reading is refused
 abbrev pub IsRefusedBy : Shaping → Sides → ShapeCause → Type 0
 IsRefusedBy p text cause = text_reading p (state_of text) ≡ Err cause
+
+-- a text isn't shaped for a cause: it is want of memory, or the reading is refused for it
+abbrev pub IsRefusedFor : Shaping → Sides → ShapeCause → Type 0
+IsRefusedFor p text cause = cause ≢ OutOfMemory → IsRefusedBy p text cause
 
 -- two results show the same: glyphs with their clusters and flags, and positions, on lines of one direction
 pub record AreSame (a b : Sides) : Type 0 where

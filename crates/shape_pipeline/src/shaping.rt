@@ -1,6 +1,5 @@
 //! Shaping of a text, with a plan or without one (rustybuzz: hb/shape.rs, `shape`, `shape_with_plan`).
 ghost use Rattle.std.specs.Prelude.{◌≡◌, ◌≢◌, Err, IfErr, IfOk, Ok, OnErr, OnOk, [], length, false};
-ghost use Rattle.buffer_core.specs.Readings.{Follows};
 ghost use Rattle.buffer_core.specs.Segment.{after_guess_segment_properties};
 ghost use Rattle.buffer_core.specs.Settings.{after_leave};
 ghost use Rattle.buffer_core.specs.Sides.{all_glyphs, empty_buffer, state_of};
@@ -8,8 +7,8 @@ ghost use Rattle.buffer_stages.specs.Settings.{text_settings};
 ghost use Rattle.buffer_wrappers.specs.Wrappers.{IsText};
 ghost use Rattle.shape_text.specs.Properties.{IsUnshaped};
 ghost use Rattle.shape_pipeline.specs.Budget.{budget_left};
-ghost use Rattle.shape_pipeline.specs.Results.{IsResultOf};
-ghost use Rattle.shape_pipeline.specs.Shaped.{by_plan, by_text, text_reading};
+ghost use Rattle.shape_pipeline.specs.Results.{IsRefusedFor, IsResultOf, IsShapedBy};
+ghost use Rattle.shape_pipeline.specs.Shaped.{by_plan, by_text};
 
 use crate::shape_stages::{ShapeStages, Shaped};
 use buffer_common::language_tags::LanguageTags;
@@ -62,11 +61,10 @@ fn shape_here<'a, S: hb_ot_shaper_t, P: SyllableSpans>(
     buffer: &mut hb_buffer_t,
 ) -> Result<(), ShapeCause>
     requires unshaped { IsUnshaped buffer.old }
-    ensures ok { OnOk result (Follows (text_reading
-        (⟦<ShapeStages<'a, S, P> as Shaped>⟧.shaping stages.now buffer.old) (state_of buffer.old)) (state_of
-        buffer.old) (state_of buffer.new)) }
-    ensures refused { IfErr result (λ e. e ≢ ShapeCause.OutOfMemory → text_reading
-        (⟦<ShapeStages<'a, S, P> as Shaped>⟧.shaping stages.now buffer.old) (state_of buffer.old) ≡ Err e) }
+    ensures ok { OnOk result (IsShapedBy (⟦<ShapeStages<'a, S, P> as Shaped>⟧.shaping stages.now buffer.old)
+        buffer.old buffer.new) }
+    ensures refused { IfErr result (IsRefusedFor (⟦<ShapeStages<'a, S, P> as Shaped>⟧.shaping stages.now buffer.old)
+        buffer.old) }
     ensures cleared { OnErr result (buffer.new ≡ empty_buffer) }
     ensures empty { all_glyphs buffer.old ≡ [] → (result ≡ Ok tt) × (buffer.new ≡ after_leave buffer.old) }
     ensures handed_on { OnOk result (IsResultOf buffer.old buffer.new) }
@@ -93,11 +91,10 @@ fn shape_guessed<'a, S: hb_ot_shaper_t, P: SyllableSpans>(
     mut buffer: hb_buffer_t,
 ) -> Result<GlyphBuffer, ShapeFault>
     requires unshaped { IsUnshaped buffer }
-    ensures ok { IfOk result (λ glyphs. Follows (text_reading
-        (⟦<ShapeStages<'a, S, P> as Shaped>⟧.shaping stages.now buffer) (state_of buffer)) (state_of
-        buffer) (state_of glyphs)) }
-    ensures refused { IfErr result (λ e. e.cause ≢ ShapeCause.OutOfMemory → text_reading
-        (⟦<ShapeStages<'a, S, P> as Shaped>⟧.shaping stages.now buffer) (state_of buffer) ≡ Err e.cause) }
+    ensures ok { IfOk result (IsShapedBy (⟦<ShapeStages<'a, S, P> as Shaped>⟧.shaping stages.now buffer)
+        buffer) }
+    ensures refused { IfErr result (λ e. IsRefusedFor
+        (⟦<ShapeStages<'a, S, P> as Shaped>⟧.shaping stages.now buffer) buffer e.cause) }
     ensures cleared { IfErr result (λ e. e.buffer ≡ empty_buffer) }
     ensures empty { all_glyphs buffer ≡ [] → result ≡ Ok (after_leave buffer) }
     ensures handed_on { IfOk result (λ glyphs. IsResultOf buffer glyphs) }
@@ -123,16 +120,13 @@ pub fn shape_buffer<S: hb_ot_shaper_t, P: SyllableSpans, L: LanguageTags>(
     buffer: &mut hb_buffer_t,
 ) -> Result<(), ShapeCause>
     requires text { IsText buffer.old }
-    ensures ok { OnOk result (Follows
-        (text_reading (by_plan (S.traits plan.now.shaper) (S.rules plan.now.shaper plan.now.script_plan) plan.now
-        face.now
-        shape_data.entry.tables.now (P.span_of shape_data.entry.spans.now) (text_settings buffer.old))
-        (state_of buffer.old))
-        (state_of buffer.old) (state_of buffer.new)) }
-    ensures refused { IfErr result (λ e. e ≢ ShapeCause.OutOfMemory → text_reading
+    ensures ok { OnOk result (IsShapedBy
         (by_plan (S.traits plan.now.shaper) (S.rules plan.now.shaper plan.now.script_plan) plan.now face.now
-        shape_data.entry.tables.now (P.span_of shape_data.entry.spans.now) (text_settings buffer.old))
-        (state_of buffer.old) ≡ Err e) }
+        shape_data.entry.tables.now (P.span_of shape_data.entry.spans.now) (text_settings buffer.old)) buffer.old
+        buffer.new) }
+    ensures refused { IfErr result (IsRefusedFor
+        (by_plan (S.traits plan.now.shaper) (S.rules plan.now.shaper plan.now.script_plan) plan.now face.now
+        shape_data.entry.tables.now (P.span_of shape_data.entry.spans.now) (text_settings buffer.old)) buffer.old) }
     ensures cleared { OnErr result (buffer.new ≡ empty_buffer) }
     ensures empty { all_glyphs buffer.old ≡ [] → (result ≡ Ok tt) × (buffer.new ≡ after_leave buffer.old) }
     ensures handed_on { OnOk result (IsResultOf buffer.old buffer.new) }
@@ -161,16 +155,14 @@ pub fn shape_with_plan<S: hb_ot_shaper_t, P: SyllableSpans, L: LanguageTags>(
     plan: &hb_ot_shape_plan_t<S>,
     mut buffer: UnicodeBuffer,
 ) -> Result<GlyphBuffer, ShapeFault>
-    ensures ok { IfOk result (λ glyphs. Follows
-        (text_reading (by_plan (S.traits plan.now.shaper) (S.rules plan.now.shaper plan.now.script_plan) plan.now
-        face.now
-        shape_data.entry.tables.now (P.span_of shape_data.entry.spans.now) (text_settings (after_guess_segment_properties buffer)))
-        (state_of (after_guess_segment_properties buffer)))
-        (state_of (after_guess_segment_properties buffer)) (state_of glyphs)) }
-    ensures refused { IfErr result (λ e. e.cause ≢ ShapeCause.OutOfMemory → text_reading
+    ensures ok { IfOk result (IsShapedBy
         (by_plan (S.traits plan.now.shaper) (S.rules plan.now.shaper plan.now.script_plan) plan.now face.now
         shape_data.entry.tables.now (P.span_of shape_data.entry.spans.now) (text_settings (after_guess_segment_properties buffer)))
-        (state_of (after_guess_segment_properties buffer)) ≡ Err e.cause) }
+        (after_guess_segment_properties buffer)) }
+    ensures refused { IfErr result (λ e. IsRefusedFor
+        (by_plan (S.traits plan.now.shaper) (S.rules plan.now.shaper plan.now.script_plan) plan.now face.now
+        shape_data.entry.tables.now (P.span_of shape_data.entry.spans.now) (text_settings (after_guess_segment_properties buffer)))
+        (after_guess_segment_properties buffer) e.cause) }
     ensures cleared { IfErr result (λ e. e.buffer ≡ empty_buffer) }
     ensures empty { all_glyphs buffer ≡ [] → result ≡ Ok (after_leave (after_guess_segment_properties buffer)) }
     ensures handed_on { IfOk result (λ glyphs. IsResultOf (after_guess_segment_properties buffer) glyphs) }
@@ -197,14 +189,14 @@ pub fn shape<P: SyllableSpans, L: LanguageTags>(
     features: &[Feature],
     mut buffer: UnicodeBuffer,
 ) -> Result<GlyphBuffer, ShapeFault>
-    ensures ok { IfOk result (λ glyphs. Follows
-        (text_reading (by_text face.now shape_data.entry.tables.now (L.tags_of shape_data.entry.languages.now)
-        (P.span_of shape_data.entry.spans.now) features.now
-        (after_guess_segment_properties buffer)) (state_of (after_guess_segment_properties buffer))) (state_of (after_guess_segment_properties buffer)) (state_of glyphs)) }
-    ensures refused { IfErr result (λ e. e.cause ≢ ShapeCause.OutOfMemory → text_reading
+    ensures ok { IfOk result (IsShapedBy
         (by_text face.now shape_data.entry.tables.now (L.tags_of shape_data.entry.languages.now)
-        (P.span_of shape_data.entry.spans.now) features.now
-        (after_guess_segment_properties buffer)) (state_of (after_guess_segment_properties buffer)) ≡ Err e.cause) }
+        (P.span_of shape_data.entry.spans.now) features.now (after_guess_segment_properties buffer))
+        (after_guess_segment_properties buffer)) }
+    ensures refused { IfErr result (λ e. IsRefusedFor
+        (by_text face.now shape_data.entry.tables.now (L.tags_of shape_data.entry.languages.now)
+        (P.span_of shape_data.entry.spans.now) features.now (after_guess_segment_properties buffer))
+        (after_guess_segment_properties buffer) e.cause) }
     ensures cleared { IfErr result (λ e. e.buffer ≡ empty_buffer) }
     ensures empty { all_glyphs buffer ≡ [] → result ≡ Ok (after_leave (after_guess_segment_properties buffer)) }
     ensures handed_on { IfOk result (λ glyphs. IsResultOf (after_guess_segment_properties buffer) glyphs) }

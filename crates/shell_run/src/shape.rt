@@ -1,9 +1,9 @@
 //! Shapes the texts of a run: they have one language and one list of features, and a plan is kept from text to text.
 ghost use Rattle.std.specs.Prelude.{◌≡◌, ◌≢◌, ◌↔◌, IfOk, IfErr, IsTrue};
-ghost use Rattle.buffer_core.specs.Readings.{Follows};
 ghost use Rattle.buffer_core.specs.Segment.{after_guess_segment_properties};
 ghost use Rattle.buffer_core.specs.Settings.{with_language};
 ghost use Rattle.buffer_core.specs.Sides.{state_of};
+ghost use Rattle.shape_pipeline.specs.Results.{IsShapedBy};
 ghost use Rattle.shape_pipeline.specs.Shaped.{text_reading};
 ghost use Rattle.shell_run.specs.Answer.{IsUnshaped, shaping};
 ghost use Rattle.shell_run.specs.Plans.{HasRunPlan, IsRunPlan, IsTextPlan, Serves};
@@ -90,9 +90,8 @@ fn shape_planned(
     text: UnicodeBuffer,
 ) -> Result<GlyphBuffer, RunFault>
     requires { IsTextPlan options.now input.now text plan.now }
-    ensures ok { IfOk result (λ glyphs. Follows
-        (text_reading (shaping (tables_value input.now.tables) input.now.face options.now.features.items (with_language options.now.language (after_guess_segment_properties text))) (state_of (after_guess_segment_properties text)))
-        (state_of (after_guess_segment_properties text)) (state_of glyphs)) }
+    ensures ok { IfOk result (IsShapedBy (shaping (tables_value input.now.tables) input.now.face options.now.features.items (with_language options.now.language (after_guess_segment_properties text)))
+        (after_guess_segment_properties text)) }
     ensures refused { IfErr result (λ e. e ≢ RunFault.OutOfMemory → IsUnshaped
         (text_reading (shaping (tables_value input.now.tables) input.now.face options.now.features.items (with_language options.now.language (after_guess_segment_properties text))) (state_of (after_guess_segment_properties text)))
         e) }
@@ -119,9 +118,8 @@ pub(crate) fn shape(
 ) -> Result<GlyphBuffer, RunFault>
     requires { HasRunPlan options.now input.now kept.old }
     ensures kept { HasRunPlan options.now input.now kept.new }
-    ensures ok { IfOk result (λ glyphs. Follows
-        (text_reading (shaping (tables_value input.now.tables) input.now.face options.now.features.items (with_language options.now.language (after_guess_segment_properties text))) (state_of (after_guess_segment_properties text)))
-        (state_of (after_guess_segment_properties text)) (state_of glyphs)) }
+    ensures ok { IfOk result (IsShapedBy (shaping (tables_value input.now.tables) input.now.face options.now.features.items (with_language options.now.language (after_guess_segment_properties text)))
+        (after_guess_segment_properties text)) }
     ensures refused { IfErr result (λ e. e ≢ RunFault.OutOfMemory → IsUnshaped
         (text_reading (shaping (tables_value input.now.tables) input.now.face options.now.features.items (with_language options.now.language (after_guess_segment_properties text))) (state_of (after_guess_segment_properties text)))
         e) }
