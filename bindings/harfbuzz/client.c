@@ -1,7 +1,7 @@
-/* What a client's font functions and settings change. Kuspveli reads a font file alone, so all of it is added here to
- * what it shaped: advances, scale, origins of vertical text, glyphs of characters that the font lacks, invisible and
- * missing glyphs, and the slant of HarfBuzz. Where positions have sums of advances or of scaled values, as those of
- * marks have, the text is shaped by a font in the client's units (sized.c). */
+/* What a client's font functions and settings change. Kuspveli reads a font file alone, so it is added here to what it
+ * shaped: advances, scale, origins of vertical text, glyphs of characters that the font lacks, and the slant of HarfBuzz.
+ * Where positions have sums of advances or of scaled values, as those of marks have, the text is shaped by a font in the
+ * client's units (sized.c). */
 #include <math.h>
 #include <stdlib.h>
 
@@ -36,23 +36,6 @@ find_client_glyphs (call_t *call)
   return call->missing && !call->is_rising ? CLUSTERS_FALL : SHAPED;
 }
 
-/* Default_Ignorable_Code_Point (UCD, DerivedCoreProperties.txt) as hb_unicode_funcs_t::is_default_ignorable has it. */
-static bool
-is_default_ignorable (hb_codepoint_t unicode)
-{
-  static const struct {
-    hb_codepoint_t first, last;
-  } ranges[] = {
-    { 0xAD, 0xAD },     { 0x34F, 0x34F },     { 0x61C, 0x61C },     { 0x17B4, 0x17B5 },     { 0x180B, 0x180F },
-    { 0x200B, 0x200F }, { 0x202A, 0x202E },   { 0x2060, 0x206F },   { 0xFE00, 0xFE0F },     { 0xFEFF, 0xFEFF },
-    { 0xFFF0, 0xFFF8 }, { 0x1D173, 0x1D17A }, { 0xE0000, 0xE0FFF },
-  };
-  for (size_t i = 0; i < sizeof ranges / sizeof *ranges; i++)
-    if (unicode >= ranges[i].first && unicode <= ranges[i].last)
-      return true;
-  return false;
-}
-
 /* A run of glyphs of one cluster, without its end, and the characters of the cluster, without their end. */
 typedef struct {
   size_t first_glyph, end_glyph, first, end;
@@ -81,15 +64,16 @@ find_end (const call_t *call, run_t *run)
   }
 }
 
-/* Gives the glyphs .notdef of a run the client's glyphs of its characters that the font lacks, in their order. */
+/* Gives the glyphs of a run that stand for characters which the font lacks the client's glyphs of these, in their order. */
 static void
 replace_missing (call_t *call, run_t run)
 {
   bool is_backward = HB_DIRECTION_IS_BACKWARD (call->properties.direction), is_replaced = false;
+  hb_codepoint_t not_found = hb_buffer_get_not_found_glyph (call->buffer);
   size_t next = run.first;
   for (size_t i = run.first_glyph; i < run.end_glyph; i++) {
     hb_glyph_info_t *info = &call->client_infos[is_backward ? run.end_glyph - 1 - (i - run.first_glyph) : i];
-    if (info->codepoint)
+    if (info->codepoint != not_found)
       continue;
     while (next < run.end && !call->missing[next])
       next++;
@@ -103,54 +87,27 @@ replace_missing (call_t *call, run_t run)
 }
 
 static bool
-has_default_ignorable (const call_t *call, run_t run)
+is_hidden (const call_t *call, size_t at)
 {
-  for (size_t i = run.first; i < run.end; i++)
-    if (is_default_ignorable (call->characters[i].character))
-      return true;
-  return false;
-}
-
-/* Shows default ignorables by the client's glyph: Kuspveli has spaces without advance for them. */
-static void
-replace_invisible (call_t *call, run_t run, uint32_t space, hb_codepoint_t invisible)
-{
-  if (!has_default_ignorable (call, run))
-    return;
-  for (size_t i = run.first_glyph; i < run.end_glyph; i++) {
-    const kus_glyph_position_t *position = &call->positions[i];
-    if (call->infos[i].codepoint == space && !position->x_advance && !position->y_advance) {
-      call->client_infos[i].codepoint = invisible;
-      count_patch (INVISIBLE_GLYPHS);
-    }
-  }
+  return call->infos[at].var1;
 }
 
 void
 fill_client_infos (call_t *call)
 {
   hb_codepoint_t invisible = hb_buffer_get_invisible_glyph (call->buffer);
-  hb_codepoint_t not_found = hb_buffer_get_not_found_glyph (call->buffer);
-  uint32_t space;
-  if (invisible && (!call->is_rising || !kus_font_get_nominal_glyph (font_of_call (call), ' ', &space)))
-    invisible = 0;
   for (size_t at = 0; at < call->count;) {
     run_t run = run_from (call, at);
     for (; at < run.end_glyph; at++)
       call->client_infos[at] = (hb_glyph_info_t){
-        .codepoint = call->infos[at].codepoint,
+        .codepoint = is_hidden (call, at) ? invisible : call->infos[at].codepoint,
         .mask = call->infos[at].mask,
         .cluster = call->infos[at].cluster,
       };
-    if (call->missing || invisible)
-      find_end (call, &run);
-    if (call->missing)
-      replace_missing (call, run);
-    if (invisible)
-      replace_invisible (call, run, space, invisible);
-    for (size_t i = run.first_glyph; not_found && i < run.end_glyph; i++)
-      if (!call->client_infos[i].codepoint)
-        call->client_infos[i].codepoint = not_found;
+    if (!call->missing)
+      continue;
+    find_end (call, &run);
+    replace_missing (call, run);
   }
 }
 
@@ -268,18 +225,27 @@ fill_sized_glyph (call_t *call, size_t at)
     to->x_advance += difference (call, at);
 }
 
+/* A glyph's position scaled, as it is without advances and origins of the client's. */
+static hb_glyph_position_t *
+fill_scaled_glyph (call_t *call, scale_t scale, size_t at)
+{
+  const kus_glyph_position_t *own = &call->positions[at];
+  hb_glyph_position_t *to = &call->client_positions[at];
+  to->x_advance = scaled (own->x_advance, scale.x);
+  to->y_advance = scaled (own->y_advance, scale.y);
+  to->x_offset = scaled (own->x_offset, scale.x);
+  to->y_offset = scaled (own->y_offset, scale.y);
+  return to;
+}
+
 /* The same by the font in its own units; whether the client's advance is another than the font's. */
 static bool
 fill_plain_glyph (call_t *call, scale_t scale, size_t at)
 {
   const kus_glyph_position_t *own = &call->positions[at];
-  hb_glyph_position_t *to = &call->client_positions[at];
-  hb_position_t before = scaled (own->x_advance, scale.x);
-  to->x_advance = before;
-  to->y_advance = scaled (own->y_advance, scale.y);
-  to->x_offset = scaled (own->x_offset, scale.x);
-  to->y_offset = scaled (own->y_offset, scale.y);
-  if (!own->x_advance && advance_before (call, at))
+  hb_glyph_position_t *to = fill_scaled_glyph (call, scale, at);
+  hb_position_t before = to->x_advance;
+  if (!own->x_advance && (is_hidden (call, at) || advance_before (call, at)))
     return false; /* a mark's, which is zeroed */
   to->x_advance = call->advances[at] + scaled (own->x_advance - advance_before (call, at), scale.x);
   bool is_other = to->x_advance != before;
@@ -309,18 +275,18 @@ static bool
 fill_vertical_glyph (call_t *call, hb_font_t *plain, scale_t scale, size_t at)
 {
   const kus_glyph_position_t *own = &call->positions[at];
-  hb_glyph_position_t *to = &call->client_positions[at];
-  hb_codepoint_t before = call->infos[at].codepoint, glyph = call->client_infos[at].codepoint;
-  hb_position_t x, y, plain_x, plain_y, table = hb_font_get_glyph_v_advance (plain, before);
+  hb_glyph_position_t *to = fill_scaled_glyph (call, scale, at), before = *to;
+  if (is_hidden (call, at))
+    return false; /* it has no origin */
+  hb_codepoint_t table_glyph = call->infos[at].codepoint, glyph = call->client_infos[at].codepoint;
+  hb_position_t x, y, plain_x, plain_y, table = hb_font_get_glyph_v_advance (plain, table_glyph);
   hb_font_get_glyph_origin_for_direction (call->font, glyph, call->properties.direction, &x, &y);
-  hb_font_get_glyph_origin_for_direction (plain, before, call->properties.direction, &plain_x, &plain_y);
-  to->x_advance = scaled (own->x_advance, scale.x);
-  to->y_advance = scaled (own->y_advance, scale.y);
+  hb_font_get_glyph_origin_for_direction (plain, table_glyph, call->properties.direction, &plain_x, &plain_y);
   if (own->y_advance || !table)
     to->y_advance = hb_font_get_glyph_v_advance (call->font, glyph) + scaled (own->y_advance - table, scale.y);
   to->x_offset = scaled (own->x_offset + plain_x, scale.x) - x;
   to->y_offset = scaled (own->y_offset + plain_y, scale.y) - y;
-  return to->x_offset != scaled (own->x_offset, scale.x) || to->y_offset != scaled (own->y_offset, scale.y);
+  return to->x_offset != before.x_offset || to->y_offset != before.y_offset;
 }
 
 static void

@@ -251,7 +251,7 @@ struct call {
   kus_text_t text;
   /* The font by which the text was shaped, where that is in the client's units; NULL where it is in font units. */
   sized_t *sized;
-  kus_glyph_info_t *infos;
+  kus_glyph_info_t *infos; /* var1 tells which are default ignorables that the client's invisible glyph shows */
   kus_glyph_position_t *positions, *higher; /* the latter by the second font of `sized` */
   size_t room, count;
   hb_position_t *advances; /* the client's of each glyph in a horizontal line */
@@ -297,7 +297,6 @@ typedef enum {
   CLIENT_UNITS,
   CLIENT_ORIGINS,
   MISSING_GLYPHS,
-  INVISIBLE_GLYPHS,
   SLANTED,
   NUM_PATCHES
 } patch_t;

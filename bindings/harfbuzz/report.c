@@ -35,7 +35,6 @@ static const char *const patch_names[NUM_PATCHES] = {
   [CLIENT_UNITS] = "texts in the client's units",
   [CLIENT_ORIGINS] = "vertical texts with the client's origins",
   [MISSING_GLYPHS] = "clusters with the client's glyphs for missing characters",
-  [INVISIBLE_GLYPHS] = "glyphs made invisible",
   [SLANTED] = "slanted texts",
 };
 

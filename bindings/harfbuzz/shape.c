@@ -128,14 +128,41 @@ reason_of (kus_status_t status)
   return status == KUS_OK ? SHAPED : status == KUS_OUT_OF_MEMORY ? NO_MEMORY : OF_TEXT + status;
 }
 
+/* A number that no font's glyph has: what the library shows default ignorables by, where the client has a glyph for them,
+ * whose number may have more than 16 bits. */
+#define HIDDEN 65535
+
+/* Shapes by a font, which shows what is invisible and what it lacks as the buffer does. */
+static kus_status_t
+shape_as_buffer (const call_t *call, kus_font_t *font, kus_glyph_info_t *infos, kus_glyph_position_t *positions,
+                 size_t room, size_t *count)
+{
+  kus_status_t status = kus_font_set_invisible_glyph (font, hb_buffer_get_invisible_glyph (call->buffer) ? HIDDEN : 0);
+  if (status == KUS_OK)
+    status = kus_font_set_not_found_glyph (font, hb_buffer_get_not_found_glyph (call->buffer));
+  return status == KUS_OK ? kus_shape (font, &call->text, infos, room, positions, room, count) : status;
+}
+
+/* Notes which glyphs are hidden ones. Until the client's glyph stands there they are .notdef, of which a client may be
+ * asked. */
+static void
+note_hidden (call_t *call)
+{
+  for (size_t i = 0; i < call->count; i++) {
+    kus_glyph_info_t *info = &call->infos[i];
+    info->var1 = info->codepoint == HIDDEN;
+    if (info->var1)
+      info->codepoint = 0;
+  }
+}
+
 static reason_t
 shape_by (call_t *call, kus_font_t *font)
 {
   /* Few texts have more glyphs; those are read again. */
   if (!call->room && !make_room (call, 2 * call->num_characters + 16))
     return NO_MEMORY;
-  kus_status_t status
-      = kus_shape (font, &call->text, call->infos, call->room, call->positions, call->room, &call->count);
+  kus_status_t status = shape_as_buffer (call, font, call->infos, call->positions, call->room, &call->count);
   if (status != KUS_OK || call->count <= call->room)
     return reason_of (status);
   if (!make_room (call, call->count))
@@ -155,7 +182,7 @@ shape_higher (call_t *call)
   call->higher = malloc ((call->count + 1) * sizeof *call->higher);
   reason_t reason = font && infos && call->higher ? SHAPED : NO_MEMORY;
   if (reason == SHAPED)
-    reason = reason_of (kus_shape (font, &call->text, infos, call->count, call->higher, call->count, &count));
+    reason = reason_of (shape_as_buffer (call, font, infos, call->higher, call->count, &count));
   bool is_same = reason == SHAPED && count == call->count;
   for (size_t i = 0; is_same && i < count; i++)
     is_same = infos[i].codepoint == call->infos[i].codepoint;
@@ -174,7 +201,11 @@ shape_text (call_t *call)
   if (!font)
     return SMALL_STACK;
   reason_t reason = shape_by (call, font);
-  return reason == SHAPED && call->sized && is_split (call->sized) ? shape_higher (call) : reason;
+  if (reason == SHAPED && call->sized && is_split (call->sized))
+    reason = shape_higher (call);
+  if (reason == SHAPED)
+    note_hidden (call);
+  return reason;
 }
 
 static reason_t

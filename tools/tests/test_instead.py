@@ -236,7 +236,7 @@ class Programs(unittest.TestCase):
 
     def test_shaped(self) -> None:
         """What Kuspveli shapes whole: by a file and by tables, by each call, in each direction, with contexts."""
-        for case, count in (("file", 5), ("tables", 5), ("contexts", 8), ("vertical", 1), ("slant", 5), ("scale", 20), ("bare", 3)):
+        for case, count in (("file", 5), ("tables", 5), ("contexts", 8), ("vertical", 2), ("slant", 5), ("scale", 20), ("bare", 3)):
             with self.subTest(case):
                 self.assertEqual(self.both(case)[0], {OWN: count})
         for case, count in (("contexts", 8), ("file", 5)):
@@ -244,15 +244,15 @@ class Programs(unittest.TestCase):
                 self.assertEqual(self.both(case, NASKH)[0], {OWN: count})
 
     def test_client(self) -> None:
-        """A client's advances, also below marks; its glyphs for missing characters; invisible and missing glyphs."""
+        """A client's advances, also below marks; its glyphs for missing characters. Invisible glyphs also where clusters fall,
+        and a not-found glyph to which the font's rules apply."""
         calls, patches = self.both("advances")
         self.assertEqual(calls, {OWN: 5})
         self.assertEqual(patches["texts with the client's advances"] + patches["texts in the client's units"], 5)
         self.assertGreater(patches["texts in the client's units"], 2)
         calls, patches = self.both("missing")
         self.assertEqual((calls, patches["clusters with the client's glyphs for missing characters"]), ({OWN: 1}, 3))
-        calls, patches = self.both("settings")
-        self.assertEqual((calls, patches["glyphs made invisible"]), ({OWN: 7}, 2))
+        self.assertEqual(self.both("settings"), ({OWN: 9}, {}))
 
     def test_left(self) -> None:
         """What is left to HarfBuzz, and why."""
@@ -261,6 +261,7 @@ class Programs(unittest.TestCase):
             ("clusters", {OWN: 3, "a character is no Unicode scalar value": 1}),
             ("messages", {"the client follows the steps of shaping": 1}),
             ("stack", {OWN: 1, "the thread's stack is too small": 1}),
+            ("wide", {OWN: 2, "text: NoGlyph": 1}),
             ("nothing", {OWN: 1, "the face has no tables": 1}),
         ):
             with self.subTest(case):

@@ -219,16 +219,33 @@ of_clusters (void)
   hb_font_destroy (font);
 }
 
+/* Characters of clusters that fall. */
+static hb_buffer_t *
+falling (const char *text)
+{
+  hb_buffer_t *buffer = buffer_of (text);
+  unsigned int length;
+  hb_glyph_info_t *infos = hb_buffer_get_glyph_infos (buffer, &length);
+  for (unsigned int i = 0; i < length; i++)
+    infos[i].cluster = length - i;
+  return buffer;
+}
+
 static void
 of_settings (void)
 {
   hb_font_t *font = new_font (new_face ());
-  hb_codepoint_t glyph = 0;
+  hb_codepoint_t glyph = 0, joining = 0;
   hb_font_get_nominal_glyph (font, '*', &glyph);
+  hb_font_get_nominal_glyph (font, 'i', &joining);
   static const char ignorables[] = "a\xC2\xAD" "b\xE2\x80\x8D" "c", lacking[] = "a\xEE\x80\x80" "b";
-  for (int way = 0; way < 7; way++) {
-    hb_buffer_t *buffer = buffer_of (way == 6 ? "\xC2\xAD" : way == 4 ? lacking : ignorables);
-    if (way == 1)
+  for (int way = 0; way < 9; way++) {
+    hb_buffer_t *buffer = way == 7 ? falling (ignorables)
+                                   : buffer_of (way == 6   ? "\xC2\xAD"
+                                                : way == 4 ? lacking
+                                                : way == 8 ? "f\xEE\x80\x80"
+                                                           : ignorables);
+    if (way == 1 || way == 7)
       hb_buffer_set_invisible_glyph (buffer, glyph);
     if (way == 2 || way == 6) /* of the last one nothing is left */
       hb_buffer_set_flags (buffer, HB_BUFFER_FLAG_REMOVE_DEFAULT_IGNORABLES | HB_BUFFER_FLAG_BOT);
@@ -238,7 +255,28 @@ of_settings (void)
       hb_buffer_set_not_found_glyph (buffer, glyph);
     if (way == 5)
       hb_buffer_set_cluster_level (buffer, HB_BUFFER_CLUSTER_LEVEL_CHARACTERS);
+    if (way == 8) /* the font's rules apply to it */
+      hb_buffer_set_not_found_glyph (buffer, joining);
     shape_buffer ("settings", font, buffer);
+  }
+  hb_font_destroy (font);
+}
+
+/* Glyphs of numbers that no font has, as Pango has them. */
+static void
+of_wide_glyphs (void)
+{
+  static const char text[] = "a\xC2\xAD" "b\xEE\x80\x80";
+  hb_font_t *font = new_font (new_face ());
+  for (int way = 0; way < 3; way++) {
+    hb_buffer_t *buffer = buffer_of (text);
+    if (way != 1)
+      hb_buffer_set_invisible_glyph (buffer, 0x0FFFFFFF);
+    if (way == 1)
+      hb_buffer_set_not_found_glyph (buffer, 0x10000);
+    if (way == 2)
+      hb_font_set_scale (font, 832, 832);
+    shape_buffer ("wide", font, buffer);
   }
   hb_font_destroy (font);
 }
@@ -388,9 +426,13 @@ of_vertical (void)
 {
   hb_font_t *font = new_font (new_face ());
   hb_font_set_scale (font, 1500, 1500);
-  hb_buffer_t *buffer = buffer_of ("office");
-  hb_buffer_set_direction (buffer, HB_DIRECTION_TTB);
-  shape_buffer ("vertical", font, buffer);
+  for (int way = 0; way < 2; way++) {
+    hb_buffer_t *buffer = buffer_of (way ? "off\xC2\xADice" : "office");
+    hb_buffer_set_direction (buffer, HB_DIRECTION_TTB);
+    if (way)
+      hb_buffer_set_invisible_glyph (buffer, 7);
+    shape_buffer ("vertical", font, buffer);
+  }
   hb_font_destroy (font);
 }
 
@@ -534,12 +576,11 @@ static const struct {
   const char *name;
   void (*run) (void);
 } cases[] = {
-  { "file", of_file },         { "tables", of_tables },     { "nothing", of_nothing }, { "calls", by_calls },
-  { "contexts", of_contexts }, { "clusters", of_clusters }, { "settings", of_settings }, { "messages", of_messages },
-  { "scale", of_scale },       { "slant", of_slant },       { "advances", of_advances }, { "missing", of_missing },
-  { "bare", of_bare },
-  { "vertical", of_vertical }, { "threads", of_threads },   { "stack", of_stack },       { "fork", of_fork },
-  { "forks", of_forks },
+  { "file", of_file },         { "tables", of_tables },     { "nothing", of_nothing },   { "calls", by_calls },
+  { "contexts", of_contexts }, { "clusters", of_clusters }, { "settings", of_settings }, { "wide", of_wide_glyphs },
+  { "messages", of_messages }, { "scale", of_scale },       { "slant", of_slant },       { "advances", of_advances },
+  { "missing", of_missing },   { "bare", of_bare },         { "vertical", of_vertical }, { "threads", of_threads },
+  { "stack", of_stack },       { "fork", of_fork },         { "forks", of_forks },
 };
 
 int
