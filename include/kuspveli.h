@@ -600,6 +600,27 @@ typedef struct {
 kus_status_t kus_cut_lines (kus_font_t *font, size_t end, const size_t *breaks, size_t num_breaks, int64_t first_width,
                             int64_t width, kus_line_t *lines, size_t lines_room, size_t *count);
 
+/* What has to hold of a font and its tables for safe breaks to be promised, a bit for each: the tables are lawful; what stands
+ * for a character keeps marks, joining types, and in private forms of Thai marks. */
+enum {
+  KUS_BREAK_PREMISE_LAWFUL = 1u << 0,
+  KUS_BREAK_PREMISE_MARKS = 1u << 1,
+  KUS_BREAK_PREMISE_TYPES = 1u << 2,
+  KUS_BREAK_PREMISE_PRIVATE_MARKS = 1u << 3
+};
+
+/* Which of these hold of a font, 0 where there is none. It tests all characters of Unicode: call it once for a font, and
+ * anew after kus_font_set_glyphs. */
+uint32_t kus_font_get_break_premises (kus_font_t *font);
+
+/* Of lines that kus_cut_lines gave of a text it leaves is_own only to those of which the law of safe breaks speaks: the
+ * text may be cut before such a line, and what is left of it after the line; the others have no glyphs then. `text` is
+ * the text that was shaped, with its settings, `premises` what kus_font_get_break_premises answered: a bit that it
+ * didn't answer promises nothing. Of the shapers that find syllables it leaves none, but for a text of one line. Beside
+ * OK it answers KUS_NO_FONT, KUS_OUT_OF_MEMORY, KUS_NOT_UTF8 and KUS_TOO_LONG, and then changes no line. */
+kus_status_t kus_check_lines (kus_font_t *font, uint32_t premises, const kus_text_t *text, kus_line_t *lines,
+                              size_t num_lines);
+
 /* The carets of the text, in its order, which are written as far as there is room, *count is how many there are: one before
  * each cluster and one at the end of the text; and one at each of `stops` inside of a cluster, which rise (where UAX 29 lets
  * a caret stand), as between the letters of a ligature. There it stands where the font's file says (GDEF), on a horizontal

@@ -162,6 +162,8 @@ def load(path: Union[str, "os.PathLike[str]"]) -> ctypes.CDLL:
     sizes, i64 = ctypes.POINTER(size), ctypes.c_int64
     cut = [handle, size, sizes, size, i64, i64, ctypes.POINTER(RawLine), size, sizes]
     declare(found, "kus_cut_lines", u32, *cut)
+    declare(found, "kus_font_get_break_premises", u32, handle)
+    declare(found, "kus_check_lines", u32, handle, u32, ctypes.POINTER(RawText), ctypes.POINTER(RawLine), size)
     declare(found, "kus_get_carets", u32, handle, size, sizes, size, ctypes.POINTER(RawCaret), size, sizes)
     return found
 
@@ -621,8 +623,10 @@ class Font(Held):
     _reference = staticmethod(LIBRARY.kus_font_reference)
     _advance: Optional[Callable[[int], int]] = None
     _asked: set[int]
-    # What the clusters of the last text count up to, and how many glyphs it has.
+    # What the clusters of the last text count up to, how many glyphs it has, and the text; what `_break_premises` answered.
     _end, _count = 0, 0
+    _text: Optional[RawText] = None
+    _premises: Optional[int] = None
 
     @overload
     def __init__(
@@ -792,7 +796,7 @@ class Font(Held):
 
     def _shaped(self, raw: RawText, own: bytes, clusters: str) -> Arrays:
         need_stack(SHAPING)
-        self._end, self._count = 0, 0
+        self._end, self._count, self._text = 0, 0, None
         room = max(64, len(own))
         infos, positions, count = (RawInfo * room)(), (RawPosition * room)(), ctypes.c_size_t()
         check(LIBRARY.kus_shape(self._handle, raw, infos, room, positions, room, count))
@@ -803,7 +807,7 @@ class Font(Held):
         arrays = arrays_of(infos, positions, count.value, character_indices(own, clusters))
         if self._measure(arrays.numbers):
             return self._shaped(raw, own, clusters)
-        self._end, self._count = len(own) // UNIT_SIZES[clusters], count.value
+        self._end, self._count, self._text = len(own) // UNIT_SIZES[clusters], count.value, raw
         return arrays
 
     def _measure(self, glyphs: Iterable[int]) -> bool:
@@ -851,6 +855,7 @@ class Font(Held):
         given = [raw_character_glyph(sequence, glyph) for sequence, glyph in glyphs.items()]
         rows = (RawCharacterGlyph * max(len(given), 1))(*given)
         with self._lock:
+            self._premises = None
             check(LIBRARY.kus_font_set_glyphs(self._handle, rows, len(given)))
 
     def set_invisible_glyph(self, glyph: Optional[int]) -> None:
@@ -873,10 +878,13 @@ class Font(Held):
 
     # -- lines and carets of the last text
 
-    def cut_lines(self, breaks: Iterable[int], width: int, first_width: Optional[int] = None) -> list[Line]:
+    def cut_lines(
+        self, breaks: Iterable[int], width: int, first_width: Optional[int] = None, *, lawful: bool = False
+    ) -> list[Line]:
         """The lines of the last text, which is shaped with Flags.PRODUCE_SAFE_BREAKS. They may end at `breaks`, which rise
         (those of UAX 14), in what its clusters count in. A line takes what fits the width, in font units, and one piece
-        between breaks at least; the first one what fits `first_width`, for a text that goes on in a line of other ones."""
+        between breaks at least; the first one what fits `first_width`, for a text that goes on in a line of other ones. With
+        `lawful` a line has its glyphs only where its ends are cuts of which the law of safe breaks speaks."""
         found = list(breaks)
         rest = signed(width, "width", bits=64)
         first = rest if first_width is None else signed(first_width, "first_width", bits=64)
@@ -884,10 +892,18 @@ class Font(Held):
         given = (*sizes_of(found, "break"), first, rest)
         with self._lock:
             check(LIBRARY.kus_cut_lines(self._handle, self._end, *given, lines, len(lines), count))
+            if lawful and self._text is not None:
+                check(LIBRARY.kus_check_lines(self._handle, self._break_premises(), self._text, lines, count.value))
         return [
             Line(one.start, one.end, one.width, range(one.first_glyph, one.end_glyph) if one.is_own else None)
             for one in lines[: count.value]
         ]
+
+    def _break_premises(self) -> int:
+        """What has to hold for safe breaks to be promised, tested once."""
+        if self._premises is None:
+            self._premises = int(LIBRARY.kus_font_get_break_premises(self._handle))
+        return self._premises
 
     def carets(self, stops: Iterable[int] = ()) -> list[Caret]:
         """The carets of the last text, in its order: between clusters and at both ends, and at those of `stops`, which rise,

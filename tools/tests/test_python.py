@@ -237,6 +237,24 @@ class Answered(unittest.TestCase):
         font.shape("")
         self.assertEqual((font.carets(), font.cut_lines([], 9)), ([(0, 0)], []))
 
+    def test_lawful_lines(self) -> None:
+        """By the law's premises: letters alone; a mark after the first letter of each line; a mark in one line alone, or
+        U+034F before a cut; each in all units. A font that draws a variation sequence of U+034F keeps no premise."""
+        font = self.binding.Font(TABLES, FONT)
+        rows = (("ab", 1, True), ("a\u0301ba\u0301", 2, True), ("a\u0301b", 2, False), ("\U0001f600\u0301bb\u0301", 3, True), ("a\u0301\u034fba\u0301", 3, False))
+        for text, at, is_own in rows:
+            for clusters, coding in (("bytes", "utf-8"), ("utf16", "utf-16-le"), ("characters", "utf-32-le")):
+                unit = len(text[:at].encode(coding)) // {"bytes": 1, "utf16": 2, "characters": 4}[clusters]
+                font.shape(text, clusters=clusters, flags=self.binding.Flags.PRODUCE_SAFE_BREAKS)
+                lines = font.cut_lines([unit], 0, lawful=True)
+                self.assertEqual([one.glyphs is not None for one in lines], [is_own, is_own], (text, clusters))
+                self.assertEqual([one.end for one in lines], [one.end for one in font.cut_lines([unit], 0)])
+        font.shape("ab")
+        self.assertEqual(len([one for one in font.cut_lines([1], 0, lawful=True) if one.glyphs]), 2)
+        font.set_glyphs({"\u034f\ufe00": 1})
+        font.shape("ab")
+        self.assertEqual([one.glyphs for one in font.cut_lines([1], 0, lawful=True)], [None, None])
+
     def test_refused_lines(self) -> None:
         """Indices that don't rise or are past the end of the text, and what are no indices and no widths."""
         self.font.shape("ab")

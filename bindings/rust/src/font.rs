@@ -413,6 +413,26 @@ impl Font {
         Ok(lines)
     }
 
+    /// What has to hold of the font and its tables for safe breaks to be promised. It tests all characters of Unicode: call it
+    /// once, and anew after `set_glyphs`.
+    pub fn break_premises(&self) -> BreakPremises {
+        BreakPremises(self.handle.with(|font| unsafe { kus_font_get_break_premises(font) }))
+    }
+
+    /// Of lines that `cut_lines` gave of a text it leaves `is_own` only to those of which the law of safe breaks speaks: the
+    /// text may be cut before such a line, and what is left of it after the line. `text` is the one that was shaped. On a
+    /// fault no line changes.
+    pub fn check_lines<T: Units + ?Sized>(
+        &self,
+        premises: BreakPremises,
+        text: &Text<'_, T>,
+        lines: &mut [Line],
+    ) -> Result<(), Fault> {
+        Fault::check(self.handle.with(|font| unsafe {
+            kus_check_lines(font, premises.0, &text.raw(), lines.as_mut_ptr(), lines.len())
+        }))
+    }
+
     /// The carets of the last text, whose clusters count up to `end`, in its order: between clusters and at both ends, and at
     /// those of `stops`, which rise, that are inside of clusters, as between the letters of a ligature: where its font's
     /// file says (`ligature_carets`), else they divide its width evenly. The text without characters has one caret.
@@ -429,6 +449,10 @@ impl Font {
         Ok(carets)
     }
 }
+
+/// What holds of a font and its tables, for safe breaks to be promised (`Font::break_premises`).
+#[derive(Clone, Copy, PartialEq, Eq, Debug)]
+pub struct BreakPremises(u32);
 
 impl fmt::Debug for Font {
     fn fmt(&self, f: &mut fmt::Formatter<'_>) -> fmt::Result {

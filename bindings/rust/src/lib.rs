@@ -17,7 +17,7 @@ mod settings;
 mod tables;
 
 pub use fault::Fault;
-pub use font::{Font, Glyphs, Measures, OwnedGlyphs, Table, count_fonts, describe_fault};
+pub use font::{BreakPremises, Font, Glyphs, Measures, OwnedGlyphs, Table, count_fonts, describe_fault};
 pub use raw::{Caret, GlyphExtents, GlyphInfo, GlyphPosition, Line, LineMetrics, Slice};
 pub use settings::{Character, ClusterLevel, Direction, Feature, Flags, NoFeature, NoTag, Tag, Text, Units};
 pub use tables::Tables;

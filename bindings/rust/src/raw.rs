@@ -258,6 +258,14 @@ extern "C" {
         lines_room: usize,
         count: *mut usize,
     ) -> u32;
+    pub(crate) fn kus_font_get_break_premises(font: *mut Handle) -> u32;
+    pub(crate) fn kus_check_lines(
+        font: *mut Handle,
+        premises: u32,
+        text: *const RawText,
+        lines: *mut Line,
+        num_lines: usize,
+    ) -> u32;
     pub(crate) fn kus_get_carets(
         font: *mut Handle,
         end: usize,

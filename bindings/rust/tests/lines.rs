@@ -37,6 +37,35 @@ fn texts_have_lines() -> Result<(), Fault> {
 }
 
 #[test]
+fn lines_are_checked() -> Result<(), Fault> {
+    let mut font = Font::new(b"{}", FONT)?;
+    let premises = font.break_premises();
+    let plain = Text::new("afib");
+    font.shape(&plain)?;
+    let mut lines = font.cut_lines(4, &[2, 3], 1020, 599)?;
+    font.check_lines(premises, &plain, &mut lines)?;
+    assert_eq!(lines, [own(0, 3, 1020, 0, 2), own(3, 4, 600, 2, 3)]);
+    // one line has a mark, the other one none
+    let marked = Text::new("a\u{301}b");
+    font.shape(&marked)?;
+    let mut lines = font.cut_lines(4, &[3], 1, 1)?;
+    assert_eq!(lines, [own(0, 3, 500, 0, 2), own(3, 4, 600, 2, 3)]);
+    font.check_lines(premises, &marked, &mut lines)?;
+    assert_eq!(lines, [again(0, 3, 500), again(3, 4, 600)]);
+    // no line is lawful where a variation sequence of U+034F has a glyph
+    let mut other = Font::new(b"{}", br#"{"cmap":[[97,1],[98,2]],"h":[[1,500],[2,600]],"variants":[[847,65024,1]]}"#)?;
+    let text = Text::new("ab");
+    other.shape(&text)?;
+    let mut lines = other.cut_lines(2, &[1], 1, 1)?;
+    other.check_lines(premises, &text, &mut lines)?;
+    assert_eq!(lines, [own(0, 1, 500, 0, 1), own(1, 2, 600, 1, 2)]);
+    assert_ne!(other.break_premises(), premises);
+    other.check_lines(other.break_premises(), &text, &mut lines)?;
+    assert_eq!(lines, [again(0, 1, 500), again(1, 2, 600)]);
+    Ok(())
+}
+
+#[test]
 fn texts_have_carets() -> Result<(), Fault> {
     let mut font = Font::new(b"{}", FONT)?;
     font.shape(&Text::new("afib"))?;

@@ -1,3 +1,4 @@
 pub mod Numbers
 pub mod Lines
 pub mod Carets
+pub mod Checked

@@ -3,6 +3,7 @@
 #![tactic(auto)]
 
 pub mod carets;
+pub mod checked;
 pub mod lines;
 pub mod numbers;
 pub mod rows;

@@ -1,12 +1,16 @@
 -- Lines and carets of a handle's font.
 use Rattle.std.proofs.Common.{ℕ, ◌≡◌, List, sym, ap, subst}
-use Rattle.std.specs.Prelude.{Option, Some}
+use Rattle.std.specs.Prelude.{IfSome, Option, Some}
+use Rattle.c_lines.specs.Checked.{AreChecked, premises_numbered}
 use Rattle.c_lines.specs.Carets.{AreCaretsOf, IsCaretsFault, IsCaretsRefusal}
 use Rattle.c_lines.specs.Lines.{AreLinesOf, IsLinesFault, IsLinesRefusal}
 use Rattle.c_lines.specs.declared.types.kus_caret_t.{kus_caret_t}
 use Rattle.c_lines.specs.declared.types.kus_line_t.{kus_line_t}
 use Rattle.c_text.specs.Fonts.{KeptFont, glyphs_of, ligatures_of, segment_in}
+use Rattle.c_text.specs.declared.types.kus_text_t.{kus_text_t}
 use Rattle.line_pieces.specs.declared.lines.Widths.{Widths}
+use Rattle.shape_breaks.specs.Cuts.{AreTested}
+use Rattle.shape_breaks.specs.declared.premises.BreakPremises.{BreakPremises}
 
 pub lines_of_font : (font : Option KeptFont) (f : KeptFont) (end : ℕ) (breaks : List ℕ) (widths : Widths) (room now : List kus_line_t) (count : ℕ)
     → font ≡ Some f → AreLinesOf f.segment.direction f.glyphs end breaks widths room now count → AreLinesOf (segment_in font).direction (glyphs_of font) end breaks widths room now count
@@ -29,3 +33,17 @@ pub font_refuses_carets : (font : Option KeptFont) (f : KeptFont) (end : ℕ) (s
 font_refuses_carets font f end stops number there refused =
     let P : Option KeptFont → Type 0 = λ k. IsCaretsFault k end stops number in
     subst P (sym there) refused
+
+-- ---- premises of safe breaks
+
+pub premises_of_font : (font : Option KeptFont) (f : KeptFont) (n : ℕ) → font ≡ Some f → AreTested f.input.tables.characters f.input.face (premises_numbered n)
+    → IfSome font (λ (k : KeptFont). AreTested k.input.tables.characters k.input.face (premises_numbered n))
+premises_of_font font f n there tested =
+    let P : Option KeptFont → Type 0 = λ o. IfSome o (λ (k : KeptFont). AreTested k.input.tables.characters k.input.face (premises_numbered n)) in
+    subst P (sym there) tested
+
+pub checked_of_font : (font : Option KeptFont) (f : KeptFont) (b : BreakPremises) (text : kus_text_t) (before now : List kus_line_t) → font ≡ Some f → AreChecked f.input b text before now
+    → IfSome font (λ (k : KeptFont). AreChecked k.input b text before now)
+checked_of_font font f b text before now there checked =
+    let P : Option KeptFont → Type 0 = λ o. IfSome o (λ (k : KeptFont). AreChecked k.input b text before now) in
+    subst P (sym there) checked

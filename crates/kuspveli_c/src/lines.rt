@@ -1,15 +1,20 @@
 //! The calls for the lines and the carets of a font's last text, as `include/kuspveli.h` declares them. Each leaves the font as
 //! it was.
-ghost use Rattle.std.specs.Prelude.{◌≡◌, ◌≢◌};
+ghost use Rattle.std.specs.Prelude.{◌≡◌, ◌≢◌, IfNone, IfSome, Some};
 ghost use Rattle.c_lines.specs.Carets.{AreCaretsOf, IsCaretsFault};
+ghost use Rattle.c_lines.specs.Checked.{AreChecked, premises_numbered};
 ghost use Rattle.c_lines.specs.Lines.{AreLinesOf, IsLinesFault};
-ghost use Rattle.c_text.specs.Fonts.{glyphs_of, ligatures_of, segment_in};
+ghost use Rattle.c_text.specs.Fonts.{IsNumberOf, glyphs_of, ligatures_of, segment_in};
+ghost use Rattle.c_text.specs.Texts.{text_fault};
+ghost use Rattle.shape_breaks.specs.Cuts.{AreTested};
 
 use c_lines::carets::write_carets;
+use c_lines::checked::{check_lines, tested_premises};
 use c_lines::lines::{Cutting, write_lines};
 use c_lines::types::{kus_caret_t, kus_line_t};
 use c_text::handle::Handle;
-use c_text::numbers::NO_FONT;
+use c_text::numbers::{NO_FONT, OK, fault_number};
+use c_text::types::kus_text_t;
 use line_pieces::Widths;
 use std::alloc::Global;
 
@@ -48,6 +53,53 @@ pub extern "C" fn kus_cut_lines(
     let status = write_lines(alloc, &mut *shown, &cutting, lines, count);
     font.put(alloc, shown);
     status
+}
+
+/// The premises of safe breaks that the font and its tables keep, for `kus_check_lines`: a bit for each. It tests all
+/// characters of Unicode. A bit that this call didn't answer promises nothing.
+#[tactic(auto, using(crate::proofs::LinesAndCarets::premises_of_font))]
+#[unsafe(no_mangle)]
+pub extern "C" fn kus_font_get_break_premises(alloc: Global, font: &mut Handle) -> u32
+    ensures same { font.new.value ≡ font.old.value }
+    ensures tested { IfSome font.old.value
+        (λ f. AreTested f.input.tables.characters f.input.face (premises_numbered result)) }
+    ensures none { IfNone font.old.value (result ≡ 0) }
+{
+    let Some(shown) = font.take(alloc) else {
+        return 0;
+    };
+    let premises = tested_premises(&shown);
+    font.put(alloc, shown);
+    premises
+}
+
+/// Leaves `is_own` only to those lines of a text whose two cuts the law of safe breaks speaks of, under premises.
+#[tactic(auto, using(crate::proofs::Results::number_of_fault, crate::proofs::LinesAndCarets::checked_of_font))]
+#[unsafe(no_mangle)]
+pub extern "C" fn kus_check_lines(
+    alloc: Global,
+    font: &mut Handle,
+    premises: u32,
+    text: &kus_text_t<'_>,
+    lines: &mut [kus_line_t],
+) -> u32
+    ensures no_font { IfNone font.old.value (result ≡ 16) }
+    ensures same { font.new.value ≡ font.old.value }
+    ensures checked { result ≡ 0 → IfSome font.old.value
+        (λ f. AreChecked f.input (premises_numbered premises) text.now lines.old lines.new) }
+    ensures refused { result ≢ 0 → result ≢ 1
+        → IfSome font.old.value (λ _. IsNumberOf (λ e. text_fault text.now ≡ Some e) result) }
+    ensures kept { result ≢ 0 → lines.new ≡ lines.old }
+{
+    let Some(shown) = font.take(alloc) else {
+        return NO_FONT;
+    };
+    let checked = check_lines(alloc, &shown, premises, text, lines);
+    font.put(alloc, shown);
+    match checked {
+        Ok(()) => OK,
+        Err(fault) => fault_number(fault),
+    }
 }
 
 /// The carets of the font's last text, which has `end` units, in the order of the text, also those at `stops` inside of

@@ -1,7 +1,7 @@
 //! With ample memory a text is cut into lines, and has carets.
 use super::{FONT, answered, close, text_of};
 use crate::calls::{kus_font_create, kus_shape};
-use crate::lines::{kus_cut_lines, kus_get_carets};
+use crate::lines::{kus_check_lines, kus_cut_lines, kus_font_get_break_premises, kus_get_carets};
 use c_lines::types::{kus_caret_t, kus_line_t};
 use c_text::handle::Handle;
 use std::alloc::{AllocError, Global};
@@ -120,6 +120,65 @@ fn text_has_lines(alloc: Global, font: &mut Handle) -> Result<bool, AllocError> 
 fn texts_have_lines(rt: HostRuntime) -> Result<(), Fail> {
     let mut font = Handle::empty(rt.alloc());
     let holds = text_has_lines(rt.alloc(), &mut font);
+    close(font);
+    assert!(rt; holds?);
+    Ok(())
+}
+
+/// Whether checking three lines of a text gives a status, and leaves those that are wanted their glyphs. Before it each has
+/// some, and units of four bytes: two, one, one.
+fn are_checked(
+    alloc: Global,
+    font: &mut Handle,
+    premises: u32,
+    text: &[u8],
+    status: u32,
+    want: [bool; 3],
+) -> Result<bool, AllocError> {
+    let mut lines = [LINE; 3];
+    let ends = [0, 2, 3, 4];
+    for k in 0..3 {
+        lines[k].start = ends[k];
+        lines[k].end = ends[k + 1];
+    }
+    let text = text_of(text, 4, &[]);
+    let given = kus_check_lines(alloc, font, premises, &text, &mut lines);
+    let left = lines[0].is_own == want[0]
+        && lines[1].is_own == want[1]
+        && lines[2].is_own == want[2];
+    Ok(answered(given)? == status && left && (lines[0].end_glyph == 99) == want[0])
+}
+
+/// Latin letters alone have lines of their own, also with a mark after the first letter of each line, and none where one line
+/// has a mark, under premises that hold.
+fn text_has_checked_lines(alloc: Global, font: &mut Handle) -> Result<bool, AllocError> {
+    let untold = kus_font_get_break_premises(alloc, font) == 0;
+    let none = are_checked(alloc, font, 15, b"afib", 16, [true, true, true])?;
+    let ready = is_ready(alloc, font, 4)?;
+    let premises = kus_font_get_break_premises(alloc, font);
+    Ok(
+        untold
+            && none
+            && ready
+            && premises == 15
+            && are_checked(alloc, font, premises, b"afib", 0, [true, true, true])?
+            && are_checked(alloc, font, 0, b"afib", 0, [false, false, false])?
+            && are_checked(
+                alloc,
+                font,
+                premises,
+                b"a\xCD\x81b",
+                0,
+                [false, false, false],
+            )?
+            && are_checked(alloc, font, premises, b"\xFF", 10, [true, true, true])?,
+    )
+}
+
+#[test]
+fn texts_have_checked_lines(rt: HostRuntime) -> Result<(), Fail> {
+    let mut font = Handle::empty(rt.alloc());
+    let holds = text_has_checked_lines(rt.alloc(), &mut font);
     close(font);
     assert!(rt; holds?);
     Ok(())
