@@ -1,23 +1,34 @@
 -- Lines of a text that are checked in place.
-use Rattle.std.proofs.Common.{ℕ, zero, suc, ◌≡◌, ◌≤◌, ◌<◌, ◌+◌, ◌-◌, ◌==◌, ◌&&◌, ◌||◌, nat_lt, if◌then◌else◌, Bool, true, false, List, [], ◌∷◌, ◌++◌, get_or, length, map, take, drop, set, refl, sym, ap, ◌∙◌, arith}
+use Rattle.std.proofs.Common.{ℕ, zero, suc, ◌≡◌, ◌≤◌, ◌<◌, ◌+◌, ◌-◌, ◌==◌, ◌&&◌, ◌||◌, nat_lt, if◌then◌else◌, Bool, true, false, List, [], ◌∷◌, ◌++◌, get_or, length, map, take, drop, set, refl, sym, ap, subst, ◌∙◌, arith}
 use Rattle.std.proofs.lemmas.Bool.Decides.{nat_tests}
 use Rattle.std.proofs.lemmas.Grind.{common_steps}
 use Rattle.std.proofs.lemmas.List.{append_assoc, drop_more, get_or_at, get_or-map, length-map, length-set, length-take, set_at, take_more}
 use Rattle.std.proofs.lemmas.List.Elements.{All-head, All-tail}
 use Rattle.std.specs.List.{All}
 use Rattle.std.specs.Int.RustNames.{bit_or}
-use Rattle.std.specs.Prelude.{Option}
+use Rattle.std.specs.Prelude.{⊤, Option}
 use Rattle.buffer_common.specs.declared.direction.Direction.{Direction}
 use Rattle.buffer_common.specs.declared.script.Script.{Script}
+use Rattle.buffer_core.specs.Segment.{after_guess_segment_properties}
+use Rattle.buffer_core.specs.Sides.{Sides, all_glyphs}
 use Rattle.buffer_facts.proofs.Numbers.{test_of_apart}
+use Rattle.buffer_tags.specs.LanguageTable.{tags_of_table}
+use Rattle.buffer_tags.specs.declared.feature.Feature.{Feature}
 use Rattle.buffer_unicode_tables.specs.Tables.{Tables}
 use Rattle.script_dispatch.specs.declared.any_shaper.hb_ot_any_shaper_t.{hb_ot_any_shaper_t}
-use Rattle.shape_breaks.specs.Cuts.{line_may_be_cut, may_be_broken}
+use Rattle.layout_face.specs.declared.parts.FaceParts.{FaceParts}
+use Rattle.script_plan.specs.declared.plan.hb_ot_shape_plan_t.{hb_ot_shape_plan_t}
+use Rattle.shape_breaks.specs.Cuts.{AreTested, line_may_be_cut, may_be_broken}
 use Rattle.shape_breaks.specs.Texts.{text_marks}
 use Rattle.shape_breaks.specs.declared.premises.BreakPremises.{BreakPremises}
 use Rattle.buffer_glyphs.specs.declared.info.hb_glyph_info_t.{hb_glyph_info_t}
-use Rattle.buffer_wrappers.specs.Wrappers.{IsCharacter}
-use Rattle.c_lines.specs.Checked.{character_of, first_from, premises_numbered}
+use Rattle.buffer_wrappers.specs.Wrappers.{IsCharacter, IsText}
+use Rattle.c_lines.specs.Checked.{AreChecked, AreCheckedIn, character_of, checked_line, first_from, premises_numbered}
+use Rattle.c_lines.specs.declared.types.kus_line_t.{kus_line_t}
+use Rattle.c_text.specs.Texts.{IsTextOf, features_of}
+use Rattle.c_text.specs.declared.types.kus_text_t.{kus_text_t}
+use Rattle.shape_pipeline.specs.Plans.{IsPlanFor}
+use Rattle.shell_readers.specs.declared.input.RunInput.{RunInput}
 
 step_within : (b : Bool) (n m : ℕ) → n ≤ m → (if b then n + 1 else 0) ≤ suc m
 step_within true n m h = omega (arith, h)
@@ -118,7 +129,37 @@ characters_are (g ∷ gs) all =
     let here : character_of g ≡ g.glyph_id = ap (λ b. if b then g.glyph_id else 0xFFFD) (All-head IsCharacter g gs all).scalar_value in
     ap (λ us. character_of g ∷ us) (characters_are gs (All-tail IsCharacter g gs all)) ∙ ap (λ u. u ∷ map (λ (x : hb_glyph_info_t). x.glyph_id) gs) here
 
+-- ---- a text and its plan
+
+-- a text in its buffer is one where its direction and script are guessed
+pub guessed_is_text : (text guessed : Sides) → guessed ≡ after_guess_segment_properties text → IsText text → IsText guessed
+guessed_is_text text guessed e is = subst IsText (sym e) (record { closed = is.closed; unrefused = is.unrefused; characters = is.characters })
+
+pub lines_checked_in : (input : RunInput) (t : Tables) (b : BreakPremises) (features : List Feature) (text : Sides) (plan : hb_ot_shape_plan_t hb_ot_any_shaper_t ⊤) (gs : List hb_glyph_info_t) (before now : List kus_line_t)
+    → IsPlanFor input.face (tags_of_table input.tables.languages) features text plan → t ≡ input.tables.characters → gs ≡ all_glyphs text → now ≡ map (checked_line b t plan gs) before
+    → AreCheckedIn input b features text before now
+lines_checked_in input t b features text plan gs before now of_text same are lines = record {
+  plan = plan;
+  of_text = of_text;
+  lines = lines ∙ ap (λ x. map (checked_line b x plan gs) before) same ∙ ap (λ xs. map (checked_line b input.tables.characters plan xs) before) are;
+}
+
+pub lines_checked : (input : RunInput) (b : BreakPremises) (text : kus_text_t) (features : List Feature) (buffer guessed : Sides) (before now : List kus_line_t)
+    → IsTextOf text buffer → guessed ≡ after_guess_segment_properties buffer → features ≡ features_of text → AreCheckedIn input b features guessed before now → AreChecked input b text before now
+lines_checked input b text features buffer guessed before now of_text guess same checked =
+    let F : List Feature → Type 0 = λ fs. AreCheckedIn input b fs guessed before now in
+    let B : Sides → Type 0 = λ s. AreCheckedIn input b (features_of text) s before now in
+    record { buffer = buffer; of_text = of_text; lines = subst B guess (subst F same checked) }
+
 -- ---- premises
+
+-- what was tested of a font's tables and parts, by the numbers of premises
+pub tested_of_font : (input : RunInput) (t : Tables) (font : FaceParts) (b c : BreakPremises) → t ≡ input.tables.characters → font ≡ input.face → AreTested t font b → c ≡ b → AreTested input.tables.characters input.face c
+tested_of_font input t font b c tables face tested same =
+    let T : Tables → Type 0 = λ x. AreTested x font b in
+    let F : FaceParts → Type 0 = λ x. AreTested input.tables.characters x b in
+    let P : BreakPremises → Type 0 = λ x. AreTested input.tables.characters input.face x in
+    subst P (sym same) (subst F face (subst T tables tested))
 
 pub numbered_back : (b : BreakPremises) (one two three four : ℕ) → one ≡ (if b.is_lawful then 1 else 0) → two ≡ (if b.keeps_marks then 2 else 0) → three ≡ (if b.keeps_types then 4 else 0) → four ≡ (if b.keeps_private_marks then 8 else 0)
     → premises_numbered (bit_or (bit_or (bit_or one two) three) four) ≡ b

@@ -1,5 +1,5 @@
 -- Lines that keep a text's glyphs only where the law of safe breaks speaks of both of their ends.
-use Rattle.std.specs.Prelude.{ℕ, ⊤, ◌+◌, ◌≡◌, ◌==◌, ◌||◌, not, if◌then◌else◌, nat_lt, bit_and, List, [], ◌∷◌, map}
+use Rattle.std.specs.Prelude.{ℕ, ⊤, ◌+◌, ◌≡◌, ◌==◌, ◌||◌, not, false, if◌then◌else◌, nat_lt, bit_and, List, [], ◌∷◌, map}
 use lib.Utf8.{scalar}
 use Rattle.buffer_core.specs.Segment.{after_guess_segment_properties}
 use Rattle.buffer_core.specs.Sides.{Sides, all_glyphs}

@@ -1,13 +1,11 @@
 //! Lines that keep a text's glyphs only where the law of safe breaks speaks of both of their ends
 //! (`shape_breaks::laws::law_broken_texts_show_both`).
 ghost use Rattle.std.specs.Prelude.{◌≡◌, ◌≢◌, ◌≤◌, ◌+◌, if◌then◌else◌, IfErr, IfOk, OnErr, OnOk, drop, length, map};
-ghost use Rattle.buffer_tags.specs.LanguageTable.{tags_of_table};
 ghost use Rattle.buffer_wrappers.specs.Wrappers.{IsText};
 ghost use Rattle.c_lines.specs.Checked.{AreChecked, AreCheckedIn, character_of, line_between, checked_line, first_from, premises_numbered, without_glyphs};
 ghost use Rattle.c_text.specs.Texts.{text_fault};
 ghost use Rattle.shape_breaks.specs.Cuts.{AreTested, line_may_be_cut};
 ghost use Rattle.shape_breaks.specs.Texts.{text_marks};
-ghost use Rattle.shape_pipeline.specs.Plans.{IsPlanFor};
 
 use crate::types::kus_line_t;
 use buffer_core::buffer::hb_buffer_t;
@@ -16,6 +14,7 @@ use buffer_tags::feature::Feature;
 use buffer_unicode_tables::UnicodeTables;
 use c_text::font::Font;
 use c_text::input::Input;
+use c_text::plan::plan_for;
 use c_text::texts::{features_of, put_text};
 use c_text::types::kus_text_t;
 use shape_breaks::{BreakPremises, TextMarks, line_may_be_cut};
@@ -32,6 +31,7 @@ const TYPES: u32 = 4;
 const PRIVATE_MARKS: u32 = 8;
 
 /// The premises that a font and its tables keep, as C passes them.
+#[tactic(auto, using(crate::proofs::Checking::tested_of_font))]
 pub fn tested_premises(font: &Font) -> u32
     ensures { AreTested font.now.input.tables.characters font.now.input.face (premises_numbered result) }
 {
@@ -67,6 +67,7 @@ fn premises_numbered(number: u32) -> BreakPremises
 }
 
 /// Leaves glyphs of their own only to those lines of a text whose ends the law speaks of, under premises.
+#[tactic(auto, using(crate::proofs::Checking::guessed_is_text, crate::proofs::Checking::lines_checked))]
 pub fn check_lines(
     alloc: Global,
     font: &Font,
@@ -101,33 +102,11 @@ fn check_in(
     ensures checked { OnOk result (AreCheckedIn input.now premises features.now buffer.now lines.old lines.new) }
     ensures kept { OnErr result (lines.new ≡ lines.old) }
 {
-    let plan = plan_of(alloc, input, features, buffer)?;
     let text = characters_of(alloc, buffer.info_slice())?;
+    let plan = plan_for(alloc, input, features, buffer)?;
     let tables = input.data().tables;
     check_each(premises, &plan, tables, buffer.info_slice(), &text, lines);
     Ok(())
-}
-
-/// The plan for a text in its buffer.
-fn plan_of(
-    alloc: Global,
-    input: &Input,
-    features: &[Feature],
-    buffer: &hb_buffer_t,
-) -> Result<ShapePlan, AllocError>
-    ensures { IfOk result
-        (IsPlanFor input.now.face (tags_of_table input.now.tables.languages) features.now buffer.now) }
-{
-    let plan = ShapePlan::new(
-        alloc,
-        input.face(),
-        input.data(),
-        buffer.direction(),
-        buffer.script(),
-        buffer.language(),
-        features,
-    )?;
-    Ok(plan)
 }
 
 /// The characters of a text's glyphs.

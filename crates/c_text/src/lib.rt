@@ -11,7 +11,7 @@ pub mod input;
 pub mod ligatures;
 pub mod line_spacing;
 pub mod numbers;
-mod plan;
+pub mod plan;
 pub mod pointer;
 pub mod queries;
 pub mod replacements;

@@ -1,16 +1,19 @@
-//! Texts that are shaped by plans that a font keeps.
-ghost use Rattle.std.specs.Prelude.{◌≡◌, ◌≢◌, IfErr, OnOk, false};
+//! Plans for texts: those that a font keeps, by which texts are shaped, and one that a caller keeps.
+ghost use Rattle.std.specs.Prelude.{◌≡◌, ◌≢◌, IfErr, IfOk, OnOk, false};
 ghost use Rattle.buffer_core.specs.Segment.{after_guess_segment_properties};
+ghost use Rattle.buffer_tags.specs.LanguageTable.{tags_of_table};
 ghost use Rattle.buffer_wrappers.specs.Wrappers.{IsText};
 ghost use Rattle.c_text.specs.Fonts.{AreShaped, IsUnshaped};
 ghost use Rattle.c_text.specs.Plans.{HasPlansOf};
+ghost use Rattle.shape_pipeline.specs.Plans.{IsPlanFor};
 
 use crate::input::Input;
 use buffer_core::buffer::hb_buffer_t;
 use buffer_tags::feature::Feature;
 use plan_cache::PlanCache;
+use shape_pipeline::ShapePlan;
 use shell_readers::fault::RunFault;
-use std::alloc::Global;
+use std::alloc::{AllocError, Global};
 
 /// How many plans a font keeps.
 pub const KEPT_PLANS: usize = 8;
@@ -37,4 +40,27 @@ pub fn shape_kept(
         Ok(()) => Ok(()),
         Err(cause) => Err(RunFault::from(cause)),
     }
+}
+
+/// The plan for a text in its buffer, whose direction, script and language it takes as they are set there.
+#[tactic(auto, using(crate::proofs::Plans::plan_for_text))]
+pub fn plan_for(
+    alloc: Global,
+    input: &Input,
+    features: &[Feature],
+    buffer: &hb_buffer_t,
+) -> Result<ShapePlan, AllocError>
+    ensures { IfOk result
+        (IsPlanFor input.now.face (tags_of_table input.now.tables.languages) features.now buffer.now) }
+{
+    let plan = ShapePlan::new(
+        alloc,
+        input.face(),
+        input.data(),
+        buffer.direction(),
+        buffer.script(),
+        buffer.language(),
+        features,
+    )?;
+    Ok(plan)
 }

@@ -74,7 +74,7 @@ pub extern "C" fn kus_font_get_break_premises(alloc: Global, font: &mut Handle) 
 }
 
 /// Leaves `is_own` only to those lines of a text whose two cuts the law of safe breaks speaks of, under premises.
-#[tactic(auto, using(crate::proofs::Results::number_of_fault, crate::proofs::LinesAndCarets::checked_of_font))]
+#[tactic(auto, using(crate::proofs::LinesAndCarets::checked_of_font, crate::proofs::LinesAndCarets::check_refused))]
 #[unsafe(no_mangle)]
 pub extern "C" fn kus_check_lines(
     alloc: Global,
