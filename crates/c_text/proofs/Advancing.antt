@@ -119,7 +119,7 @@ unfolding planned_shaper text_map text_plan
 plan_stays font rows plan is = record { shaper = is.shaper; script_plan = is.script_plan; features = is.features; tags = is.tags }
 
 cached_stays : (font : FaceParts) (rows : List (GlyphRow ℕ)) (tags : List ℕ → List Tag) (k : CachedPlan) → IsCachedFor font tags k → IsCachedFor (record font { h = rows }) tags k
-cached_stays font rows tags k is = record { plan = plan_stays font rows k.plan is.plan; tagged = is.tagged }
+cached_stays font rows tags k is = record { plan = plan_stays font rows k.plan.value is.plan; tagged = is.tagged }
 
 all_stay : (font : FaceParts) (rows : List (GlyphRow ℕ)) (tags : List ℕ → List Tag) (plans : List CachedPlan) → All (IsCachedFor font tags) plans → All (IsCachedFor (record font { h = rows }) tags) plans
 all_stay font rows tags plans are k d lt = cached_stays font rows tags (get_or plans k d) (are k d lt)

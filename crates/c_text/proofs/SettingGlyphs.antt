@@ -100,7 +100,7 @@ unfolding planned_shaper text_map text_plan
 plan_stays font rows variants plan is = record { shaper = is.shaper; script_plan = is.script_plan; features = is.features; tags = is.tags }
 
 cached_stays : (font : FaceParts) (rows : List CharacterRow) (variants : List VariationRow) (tags : List ℕ → List Tag) (k : CachedPlan) → IsCachedFor font tags k → IsCachedFor (record font { cmap = rows; variants = variants }) tags k
-cached_stays font rows variants tags k is = record { plan = plan_stays font rows variants k.plan is.plan; tagged = is.tagged }
+cached_stays font rows variants tags k is = record { plan = plan_stays font rows variants k.plan.value is.plan; tagged = is.tagged }
 
 abbrev AreCached : FaceParts → (List ℕ → List Tag) → List CachedPlan → Type 0
 AreCached font tags plans = All (IsCachedFor font tags) plans

@@ -30,14 +30,14 @@ use Rattle.shape_pipeline.proofs.Shaped.{empty_follows}
 module _ (law : ServingPlansGiveTheTextsShaping) (font : FaceParts) (tables : Tables) (tags : List ℕ → List Tag) (spans : Spans) (features : List Feature) (text guessed : Sides) (is : guessed ≡ after_guess_segment_properties text) (plans : List CachedPlan) (i : ℕ) (k : CachedPlan)
     (all : All (IsCachedFor font tags) plans) (ends : EndsServing tags features guessed plans) (last : i ≡ length plans - 1) (read : k ≡ slice_index_or plans i k) (r : Result ⊤ ShapeCause) (new : Sides) where
   abbrev planned : Sides → Shaping
-  planned t = by_plan (traits_of k.plan.shaper) (rules_of k.plan.shaper k.plan.script_plan) k.plan font tables spans (text_settings t)
+  planned t = by_plan (traits_of k.plan.value.shaper) (rules_of k.plan.value.shaper k.plan.value.script_plan) k.plan.value font tables spans (text_settings t)
 
   own : planned (after_guess_segment_properties text) ≡ by_text font tables tags spans features (after_guess_segment_properties text)
   own =
       let serving : EndsServing tags features text plans = ends_guessed tags features text guessed plans is ends in
       let within : i < length plans = omega (arith, some_last tags features text plans serving) in
       let P : CachedPlan → Type 0 = λ x. IsCachedFor font tags x in
-      law font tables tags spans features text k.plan (subst P (sym read) (all i k within)).plan (last_serves tags features text plans i k serving last read)
+      law font tables tags spans features text k.plan.value (subst P (sym read) (all i k within)).plan (last_serves tags features text plans i k serving last read)
 
   abbrev IsShaped : Sides → Shaping → Type 0
   IsShaped t p = OnOk r (Follows (text_reading p (state_of t)) (state_of t) (state_of new))
@@ -52,10 +52,10 @@ module _ (law : ServingPlansGiveTheTextsShaping) (font : FaceParts) (tables : Ta
   refused_by_last h = subst (IsRefused (after_guess_segment_properties text)) own (subst (λ t. IsRefused t (planned t)) is h)
 
   -- the plan has the direction of the text
-  pub direction_of_last : (k.plan.script_plan.direction ≡ guessed.direction → OnOk r (new.direction ≡ guessed.direction)) → OnOk r (new.direction ≡ (after_guess_segment_properties text).direction)
+  pub direction_of_last : (k.plan.value.script_plan.direction ≡ guessed.direction → OnOk r (new.direction ≡ guessed.direction)) → OnOk r (new.direction ≡ (after_guess_segment_properties text).direction)
   direction_of_last keeps =
       let serving : EndsServing tags features text plans = ends_guessed tags features text guessed plans is ends in
-      let line : k.plan.script_plan.direction ≡ guessed.direction = sym (last_serves tags features text plans i k serving last read).fits.direction ∙ ap (λ (x : Sides). x.direction) (sym is) in
+      let line : k.plan.value.script_plan.direction ≡ guessed.direction = sym (last_serves tags features text plans i k serving last read).fits.direction ∙ ap (λ (x : Sides). x.direction) (sym is) in
       let P : Sides → Type 0 = λ t. OnOk r (new.direction ≡ t.direction) in
       subst P is (keeps line)
 

@@ -20,7 +20,7 @@ IsCacheOf font tags c = All (IsCachedFor font tags) c.plans
 
 -- a cached plan serves a text with features
 abbrev pub ServesText : (List ℕ → List Tag) → List Feature → Sides → CachedPlan → Type 0
-ServesText tags features text k = Serves tags features text k.plan
+ServesText tags features text k = Serves tags features text k.plan.value
 
 -- the plan at an index is the most recently used one that serves a text
 pub record IsServing (tags : List ℕ → List Tag) (features : List Feature) (text : Sides) (plans : List CachedPlan) (i : ℕ) : Type 0 where

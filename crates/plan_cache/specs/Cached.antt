@@ -9,9 +9,9 @@ use Rattle.plan_cache.specs.declared.cached.CachedPlan.{CachedPlan}
 
 -- a cached plan has the OpenType tags of the language that is kept with it, by a table of languages
 abbrev pub HasTagsOf : (List ℕ → List Tag) → CachedPlan → Type 0
-HasTagsOf tags k = k.plan.language_tags.items ≡ option_map_or (λ text. tags (string_bytes text)) k.language []
+HasTagsOf tags k = k.plan.value.language_tags.items ≡ option_map_or (λ text. tags (string_bytes text)) k.language []
 
 -- a cached plan is one of a font and of a table of languages
 pub record IsCachedFor (font : FaceParts) (tags : List ℕ → List Tag) (k : CachedPlan) : Type 0 where
-  pub plan : IsPlanOf font k.plan
+  pub plan : IsPlanOf font k.plan.value
   pub tagged : HasTagsOf tags k

@@ -19,7 +19,8 @@ use std::alloc::{AllocError, Global};
 /// A plan, and the BCP 47 tag of the language for which it was made.
 #[derive(Drop)]
 pub struct CachedPlan {
-    pub plan: ShapePlan,
+    /// In a box, since a cache moves the plan that it uses.
+    pub plan: Box<ShapePlan>,
     pub language: Option<String>,
 }
 
@@ -34,7 +35,7 @@ impl CachedPlan {
     ) -> Result<CachedPlan, AllocError>
         requires { after_guess_segment_properties text.now ≡ text.now }
         ensures cached { IfOk result (IsCachedFor face.now (L.tags_of shape_data.entry.languages.now)) }
-        ensures serves { IfOk result (λ k. Serves (L.tags_of shape_data.entry.languages.now) features.now text.now k.plan) }
+        ensures serves { IfOk result (λ k. Serves (L.tags_of shape_data.entry.languages.now) features.now text.now k.plan.value) }
     {
         law_plans_serve_their_texts();
         let language = text.language();
@@ -48,8 +49,9 @@ impl CachedPlan {
             language,
             features,
         )?;
+        let boxed = Box::new(alloc, plan)?;
         Ok(CachedPlan {
-            plan,
+            plan: boxed,
             language: kept,
         })
     }
@@ -63,7 +65,7 @@ impl CachedPlan {
     ) -> bool
         requires tags { HasTagsOf (L.tags_of languages.now) self.now }
         requires guessed { after_guess_segment_properties text.now ≡ text.now }
-        ensures { IsTrue result ↔ Serves (L.tags_of languages.now) features.now text.now self.now.plan }
+        ensures { IsTrue result ↔ Serves (L.tags_of languages.now) features.now text.now self.now.plan.value }
     {
         self.fits(text)
             && are_features(self.plan.user_features.as_slice(), features)
@@ -74,7 +76,7 @@ impl CachedPlan {
     /// `UNKNOWN`.
     fn fits(&self, text: &hb_buffer_t) -> bool
         requires { after_guess_segment_properties text.now ≡ text.now }
-        ensures { IsTrue result ↔ Fits self.now.plan text.now }
+        ensures { IsTrue result ↔ Fits self.now.plan.value text.now }
     {
         let plan = &self.plan.script_plan;
         text.direction() == plan.direction
@@ -85,7 +87,7 @@ impl CachedPlan {
     #[tactic(auto, using(crate::proofs::Languages::tags_as_kept))]
     fn has_tags_of<L: LanguageTags>(&self, languages: &L, language: Option<&Language>) -> bool
         requires { HasTagsOf (L.tags_of languages.now) self.now }
-        ensures { IsTrue result ↔ self.now.plan.language_tags.items
+        ensures { IsTrue result ↔ self.now.plan.value.language_tags.items
             ≡ wanted_language_tags (L.tags_of languages.now) (option_copied language.entry) }
     {
         is_language(&self.language, language)
