@@ -10,6 +10,7 @@ from functools import partial
 from pathlib import Path
 from typing import Any, Callable, Iterator
 
+from beside.cuts_cli import print_kept, try_cuts
 from beside.flags import Forbidden, forbidden, table_of
 from beside.fonts_cli import USUAL, fonts_of
 from beside.fonts_texts import scripts_of, words_of
@@ -36,7 +37,10 @@ each run; with --pages they are the clauses of the texts of bench/real, each in 
 script that were tried, each line whose pieces differ, as unsure where that may be for a known reason, and each line at
 which the program ends or whose answer breaks another promise. The status is 1 where a line is printed that isn't unsure.
 With --flags those clauses are shaped alone, and a table says how many breaks for 1,000 characters are forbidden by flag, by
-hb-shape, by the program and by the program with --safe-breaks."""
+hb-shape, by the program and by the program with --safe-breaks. With --kept a table says how many lines of paragraphs of 3,000
+characters keep the paragraph's glyphs, by flags alone and where the library's calls say that the law of safe breaks speaks of
+them. With --cuts N parts of those paragraphs are cut at up to ten safe breaks at once, at both levels, until the law speaks of
+N cuts by these calls, and the lines between them are compared with the whole; the status is 1 where one differs."""
 # Words of a line, and its least and greatest lengths by chance.
 LONGEST = 8
 STRINGS = (2, 12)
@@ -69,6 +73,8 @@ def parser() -> argparse.ArgumentParser:
     words.add_argument("--every", type=int, default=1, metavar="N", help="each Nth font alone (1)")
     words.add_argument("--pages", action="store_true", help="clauses of the texts of bench/real, in place of the folders")
     words.add_argument("--flags", action="store_true", help="what is forbidden in those clauses, in place of cuts")
+    words.add_argument("--kept", action="store_true", help="which lines of paragraphs keep their glyphs, in place of cuts")
+    words.add_argument("--cuts", type=int, default=0, metavar="N", help="sets of cuts, until the law speaks of N cuts")
     words.add_argument("--lines", type=int, default=200, metavar="N", help="lines for each font (200)")
     words.add_argument("--jobs", type=int, default=1, metavar="N", help="processes that try fonts (1)")
     words.add_argument("--seed", type=int, default=1, metavar="N", help="which lines are drawn (1)")
@@ -81,6 +87,11 @@ def main(given: list[str]) -> int:
     if options.flags:
         print("\n".join(table_of(list(all_forbidden(options.lines, options.every)))))
         return 0
+    if options.kept:
+        print_kept(NAME, standing_sets(options.every))
+        return 0
+    if options.cuts:
+        return 0 if try_cuts(NAME, standing_sets(options.every), options.cuts, options.seed) else 1
     program = ready_trials(NAME)
     reader()  # before there are processes, each of which would look for it
     tried: list[Tried] = []
@@ -102,11 +113,16 @@ def main(given: list[str]) -> int:
 def all_forbidden(count: int, every: int) -> Iterator[Forbidden]:
     """What flags forbid in the clauses of the sets whose font is there."""
     program = ready_program(NAME, target=KUSPVELI)
+    for chosen in standing_sets(every):
+        yield forbidden(program, chosen, clauses_of(chosen, count))
+
+
+def standing_sets(every: int) -> list[Set]:
+    """Each Nth set, but for those whose font isn't there, which are told."""
     for chosen in SETS[::every]:
-        if chosen.font.is_file():
-            yield forbidden(program, chosen, clauses_of(chosen, count))
-        else:
+        if not chosen.font.is_file():
             told(missing(chosen))
+    return [chosen for chosen in SETS[::every] if chosen.font.is_file()]
 
 
 def missing(chosen: Set) -> Tried:

@@ -8,6 +8,7 @@ import tempfile
 import unittest
 from dataclasses import dataclass, field
 from pathlib import Path
+from types import SimpleNamespace
 from typing import Any
 from unittest import mock
 
@@ -15,6 +16,7 @@ from support import DEJAVU, told_by, write_stand_in  # it puts the tools and ben
 
 from beside import breaks_cli
 from beside.breaks_cli import clauses_of, lines_of
+from beside.cuts import KINDS, Paragraph, Share, Trial, paragraphs, pointed, rows_of, safe_cuts, shares_table
 from beside.flags import Forbidden, flagged, table_of
 from beside.sets import SETS
 from building.places import PROGRAM, TRIALS, Place, standing
@@ -381,6 +383,65 @@ class Lines(unittest.TestCase):
         lines, again = (list(lines_of(characters, 40, random.Random("1/font"))) for _ in range(2))
         self.assertEqual((lines, len(lines)), (again, 40))
         self.assertLessEqual(set(map(ord, "".join(line.text for line in lines))), {*characters, 0x20})
+
+
+class Cuts(unittest.TestCase):
+    """Lines and sets of cuts by the library's calls, over a stand-in for its fonts."""
+
+    def test_paragraphs(self) -> None:
+        """Lines end at the last break that fits, and in the midst of a piece that is too long."""
+        given = Paragraph("ab cde f ghijklm", (3, 7, 9))
+        self.assertEqual((given.ends(6), given.ends(16)), ([3, 9, 15], []))
+        words = ["\u05d0\u05d1", "\u05d0\u05b8\u05d1", "ab", "\u0627\u0644\u0628\u0627\u0628", "e\u0301"]
+        self.assertEqual([len(word) for word in pointed(words, 1)], [4, 4, 2, 10, 2])
+        self.assertEqual([len(word) for word in pointed(words, 3)], [4, 2, 2, 10, 2])
+        hebrew = next(chosen for chosen in SETS if chosen.name == "Hebrew")
+        self.assertEqual(list(paragraphs(hebrew, frozenset())), ["as they are", "with points", "few points"])
+
+    def test_shares(self) -> None:
+        """Sets of which the law speaks nowhere are one row."""
+        rows = {name: dict.fromkeys(KINDS, Share(*counts)) for name, counts in SHARES.items()}
+        cells = ["| Latin " + 5 * "| 90, 50 " + "|", "| the others " + 5 * "| 75, 0 " + "|"]
+        self.assertEqual(shares_table(rows_of(rows))[2:], cells)
+
+    def test_trials(self) -> None:
+        """A line that differs from its part of the whole is found, and a cluster with a flag is no cut."""
+        self.assertEqual(safe_cuts([(5, 2, 0), (5, 1, 1), (5, 1, 0), (5, 0, 0)]), [2])
+        for is_changed in (False, True):
+            trial = Trial(StandIn(False), StandIn(is_changed), "en")
+            found = trial.tried("abcd", 3, random.Random(1))
+            self.assertGreater(found.lawful, 0)
+            self.assertEqual({text for text, *_ in found.differing}, {"abcd"} if is_changed else set())
+
+
+# Lines, those that keep their glyphs by flags, and those by the law.
+SHARES = {"Latin": (10, 9, 5), "Khmer": (10, 5, 0), "Tibetan": (10, 10, 0)}
+
+
+class StandIn:
+    """A font with a glyph for each character, another one where it is changed; the law speaks of each line."""
+
+    def __init__(self, is_changed: bool) -> None:
+        self.is_changed = is_changed
+
+    def shape_arrays(self, text: str, **settings: Any) -> Any:
+        zeros, numbers = [0] * len(text), [ord(each) + self.is_changed for each in text]
+        return SimpleNamespace(
+            numbers=numbers, clusters=list(range(len(text))), flags=zeros,
+            x_advances=zeros, y_advances=zeros, x_offsets=zeros, y_offsets=zeros,
+        )  # fmt: skip
+
+    def cut_lines(self, breaks: list[int], width: int, lawful: bool) -> list[Any]:
+        return [
+            SimpleNamespace(start=begin, end=end, glyphs=range(begin, end))
+            for begin, end in zip([0, *breaks], [*breaks, 4])
+        ]
+
+    def direction(self) -> str:
+        return "ltr"
+
+    def script(self) -> str:
+        return "Latn"
 
 
 if __name__ == "__main__":
