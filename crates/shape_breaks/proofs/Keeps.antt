@@ -1,6 +1,7 @@
 -- What stands for a character by a shaper keeps marks and joining types, where tables and font do.
 use Rattle.std.proofs.Common.{ℕ, ◌≡◌, ◌≤◌, ◌<◌, ◌==◌, ◌&&◌, ◌||◌, nat_le, nat_lt, inl, inr, if◌then◌else◌, Bool, true, false, Option, None, Some, arith, refl, sym, ap, subst, ◌∙◌}
 use Rattle.std.proofs.lemmas.Bool.Decides.{nat_tests}
+use lib.Utf8.{scalar}
 use Rattle.buffer_facts.proofs.Truth.{both_true, either_true}
 use Rattle.buffer_unicode.specs.Character.{is_in_range, is_variation_selector_character}
 use Rattle.buffer_unicode_tables.specs.Lawful.{IsLawful}
@@ -11,13 +12,11 @@ use Rattle.script_joining.specs.Types.{type_of_character}
 use Rattle.shape_laws.specs.Breaks.Characters.{CounterpartKeepsMarks, HalvesKeepMarks}
 use Rattle.shape_laws.specs.Breaks.ThaiCharacters.{KeepsPrivateMarks, PrivateKeepsMarks}
 use Rattle.shape_laws.specs.Breaks.Types.{AreSeenAs, CounterpartKeepsType, HalvesKeepType, joins_nothing}
-use Rattle.shape_laws.proofs.Shapers.{pair_guarded}
 use Rattle.shape_pipeline.specs.Shaping.{Shaping}
 use Rattle.shape_breaks.specs.Laws.{FollowsTables, TablesKeepMarks, TablesKeepTypes}
 use Rattle.shape_breaks.specs.Tables.{HaveNoFault, KeepMarks, KeepPrivateMarks, KeepTypes}
 use Rattle.shape_breaks.proofs.Rows.{joiner_stays, no_action, no_class, no_mirrored, no_split, no_thai, no_vertical}
 use Rattle.shape_breaks.proofs.Types.{KeepHalves, KeepOrdered, composites_seen}
-use lib.Utf8.{scalar}
 
 -- ---- what holds of each character, and of no number beside them, holds of each number
 
@@ -94,6 +93,10 @@ all_ordered : (t : Tables) → HaveNoFault t → KeepTypes t → KeepOrdered t
 all_ordered t sound is u =
     by_scalar u ((class_of t u == 0 || joins_nothing (type_of_character t u)) ≡ true) (λ e. (is.each u e).ordered) (λ e. zero_first (class_of t u) (joins_nothing (type_of_character t u)) (no_class t u sound e))
 
+composed : (b : Bool) (o : Option ℕ) (u : ℕ) → (if b then o else None) ≡ Some u → o ≡ Some u
+composed true o u e = e
+composed false o u e = cc
+
 pub tables_keep_types : TablesKeepTypes
 tables_keep_types p sound lawful follows is =
     let t = p.tables in
@@ -101,7 +104,7 @@ tables_keep_types p sound lawful follows is =
     let ordered = all_ordered t sound is in
     record {
       halves = λ u. asked_for u (HalvesKeepType t (type_of_character t u)) (p.rules.splits t u) tt (λ e. subst (HalvesKeepType t (type_of_character t u)) (sym (follows.splits u)) (halves u));
-      composites = λ a b u e. composites_seen t a b u halves ordered lawful.pairs_are_equivalent (follows.composes a b u (pair_guarded (scalar a && scalar b) (p.rules.composes t a b) u e));
+      composites = λ a b u e. composites_seen t a b u halves ordered lawful.pairs_are_equivalent (follows.composes a b u (composed (scalar a && scalar b) (p.rules.composes t a b) u e));
       mirrored = λ u. only_for u (CounterpartKeepsType t u) (counterpart_in t.mirrored u) tt (λ e. (is.each u e).mirrored) (λ e. no_mirrored t u sound e);
       vertical = λ u. only_for u (CounterpartKeepsType t u) (counterpart_in t.vertical u) tt (λ e. (is.each u e).vertical) (λ e. no_vertical t u sound e);
       selectors = λ u e. (is.each u (selector_scalar u e)).selectors e;

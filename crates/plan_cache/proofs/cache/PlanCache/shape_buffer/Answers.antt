@@ -23,17 +23,17 @@ returns-clause-used g c some =
 pub returns-clause-ok : goal.returns-clause-ok
 returns-clause-ok g c =
     shaped_by_last c.law_serving_plans_give_the_texts_shaping.ensures c.args.face.now c.args.shape_data.tables.now (g.L.LanguageTags.tags_of c.args.shape_data.languages.now) (g.P.SyllableSpans.span_of c.args.shape_data.spans.now) c.args.features.now
-    c.args.buffer.now c.guess_segment_properties.new.self c.guess_segment_properties.ensures c.use_plan.new.self.plans _ c.last_used-cached.result.now c.in-Ok.ensures.cache c.in-Ok.ensures.last refl c.last_used-cached.ensures c.shape_buffer.result c.shape_buffer.new.buffer c.shape_buffer.ensures.ok
+    c.args.buffer.now c.guess_segment_properties.new.self c.guess_segment_properties.ensures c.use_plan.new.self.plans _ c.last_used-cached.result.now c.in-Ok.ensures.cache c.in-Ok.ensures.last refl c.last_used-cached.ensures c.shape_buffer.result c.shape_buffer.new.buffer (rw c.deref.ensures at c.shape_buffer.ensures.ok)
 
 pub returns-clause-refused : goal.returns-clause-refused
 returns-clause-refused g c =
     refused_by_last c.law_serving_plans_give_the_texts_shaping.ensures c.args.face.now c.args.shape_data.tables.now (g.L.LanguageTags.tags_of c.args.shape_data.languages.now) (g.P.SyllableSpans.span_of c.args.shape_data.spans.now) c.args.features.now
-    c.args.buffer.now c.guess_segment_properties.new.self c.guess_segment_properties.ensures c.use_plan.new.self.plans _ c.last_used-cached.result.now c.in-Ok.ensures.cache c.in-Ok.ensures.last refl c.last_used-cached.ensures c.shape_buffer.result c.shape_buffer.new.buffer c.shape_buffer.ensures.refused
+    c.args.buffer.now c.guess_segment_properties.new.self c.guess_segment_properties.ensures c.use_plan.new.self.plans _ c.last_used-cached.result.now c.in-Ok.ensures.cache c.in-Ok.ensures.last refl c.last_used-cached.ensures c.shape_buffer.result c.shape_buffer.new.buffer (rw c.deref.ensures at c.shape_buffer.ensures.refused)
 
 pub returns-clause-direction : goal.returns-clause-direction
 returns-clause-direction g c =
     direction_of_last c.law_serving_plans_give_the_texts_shaping.ensures c.args.face.now c.args.shape_data.tables.now (g.L.LanguageTags.tags_of c.args.shape_data.languages.now) (g.P.SyllableSpans.span_of c.args.shape_data.spans.now) c.args.features.now
-    c.args.buffer.now c.guess_segment_properties.new.self c.guess_segment_properties.ensures c.use_plan.new.self.plans _ c.last_used-cached.result.now c.in-Ok.ensures.cache c.in-Ok.ensures.last refl c.last_used-cached.ensures c.shape_buffer.result c.shape_buffer.new.buffer c.shape_buffer.ensures.direction
+    c.args.buffer.now c.guess_segment_properties.new.self c.guess_segment_properties.ensures c.use_plan.new.self.plans _ c.last_used-cached.result.now c.in-Ok.ensures.cache c.in-Ok.ensures.last refl c.last_used-cached.ensures c.shape_buffer.result c.shape_buffer.new.buffer (rw c.deref.ensures at c.shape_buffer.ensures.direction)
 
 pub returns-then-is_empty-clause-ok : goal.returns-then-is_empty-clause-ok
 returns-then-is_empty-clause-ok g c =
