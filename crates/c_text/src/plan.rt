@@ -43,7 +43,6 @@ pub fn shape_kept(
 }
 
 /// The plan for a text in its buffer, whose direction, script and language it takes as they are set there.
-#[tactic(auto, using(crate::proofs::Plans::plan_for_text))]
 pub fn plan_for(
     alloc: Global,
     input: &Input,
