@@ -127,9 +127,9 @@ class Share:
     def __add__(self, other: "Share") -> "Share":
         return Share(self.lines + other.lines, self.by_flags + other.by_flags, self.by_law + other.by_law)
 
-    def cell(self) -> str:
-        """Of a table: percents by flags and by the law."""
-        return f"{100 * self.by_flags / self.lines:.0f}, {100 * self.by_law / self.lines:.0f}" if self.lines else "–"
+    def cell(self, count: int) -> str:
+        """Of a table: so many of the lines in percent."""
+        return f"{100 * count / self.lines:.0f}" if self.lines else "–"
 
 
 def share_of(font: Any, language: str, given: Paragraph) -> Share:
@@ -148,8 +148,13 @@ def rows_of(shares: dict[str, dict[str, Share]]) -> dict[str, dict[str, Share]]:
 
 
 def shares_table(rows: dict[str, dict[str, Share]]) -> list[str]:
-    """A table in Markdown: of each kind of paragraph the percents of lines."""
-    return table_lines([["Set", *KINDS], *([name, *(row[kind].cell() for kind in KINDS)] for name, row in rows.items())])
+    """A table in Markdown: percents of lines, by flags of all kinds of paragraphs, then by the law of each kind."""
+    return table_lines([["Set", "by flags", *KINDS], *([name, *cells_of(row)] for name, row in rows.items())])
+
+
+def cells_of(row: dict[str, Share]) -> list[str]:
+    total = sum(row.values(), Share())
+    return [total.cell(total.by_flags), *(row[kind].cell(row[kind].by_law) for kind in KINDS)]
 
 
 # ---- sets of cuts

@@ -401,7 +401,7 @@ class Cuts(unittest.TestCase):
     def test_shares(self) -> None:
         """Sets of which the law speaks nowhere are one row."""
         rows = {name: dict.fromkeys(KINDS, Share(*counts)) for name, counts in SHARES.items()}
-        cells = ["| Latin " + 5 * "| 90, 50 " + "|", "| the others " + 5 * "| 75, 0 " + "|"]
+        cells = ["| Latin | 90 " + 5 * "| 50 " + "|", "| the others | 75 " + 5 * "| 0 " + "|"]
         self.assertEqual(shares_table(rows_of(rows))[2:], cells)
 
     def test_trials(self) -> None:
