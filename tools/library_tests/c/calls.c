@@ -239,9 +239,27 @@ some_indices (size_t count)
   return indices;
 }
 
+/* Of checked lines some are no longer the text's own, and nothing else changes; of none where the answer is a fault. */
+static void
+try_checks (kus_font_t *font, const kus_text_t *text, kus_line_t *lines, size_t num_lines)
+{
+  kus_line_t *before = block (num_lines * sizeof *before);
+  memcpy (before, lines, num_lines * sizeof *before);
+  uint32_t premises = once_in (500) ? kus_font_get_break_premises (font) : below (32);
+  kus_status_t status = kus_check_lines (font, premises, text, lines, num_lines);
+  note (status);
+  for (size_t i = 0; i < num_lines; i++) {
+    const kus_line_t *old = &before[i], *new = &lines[i];
+    if (new->start != old->start || new->end != old->end || new->width != old->width) fail ("a checked line", "that is another");
+    if (new->is_own == old->is_own && new->first_glyph == old->first_glyph && new->end_glyph == old->end_glyph) continue;
+    if (status != KUS_OK || new->is_own || new->first_glyph || new->end_glyph) fail ("a checked line", "that wasn't left out");
+  }
+  free_block (before, num_lines * sizeof *before);
+}
+
 /* Lines join from the text's beginning to its end, and each of glyphs has some. */
 static void
-try_lines (kus_font_t *font, size_t end)
+try_lines (kus_font_t *font, const kus_text_t *text, size_t end)
 {
   size_t num_breaks = below (8), room = below (MOST_ROOM), count = 1, last = 0;
   size_t *breaks = some_indices (num_breaks);
@@ -256,6 +274,7 @@ try_lines (kus_font_t *font, size_t end)
     last = lines[i].end;
   }
   if (status == KUS_OK && count <= room && last != end) fail ("lines", "that don't end");
+  if (once_in (2)) try_checks (font, text, lines, less (room, count));
   free_block (breaks, num_breaks * sizeof *breaks);
   free_block (lines, room * sizeof *lines);
 }
@@ -309,7 +328,7 @@ call_shape (void)
   if (once_in (3) && try_glyphs (font, NULL) != count) fail ("glyphs", "of another number");
   if (once_in (3)) try_slices (font, &text);
   size_t end = once_in (20) ? below (2 * MOST_CHARACTERS) : end_of (&text);
-  if (once_in (3)) try_lines (font, end);
+  if (once_in (3)) try_lines (font, &text, end);
   if (once_in (3)) try_carets (font, once_in (9) ? (size_t) drawn () : end);
   kus_get_direction (font);
   kus_get_script (font);
@@ -545,6 +564,7 @@ call_words (void)
   kus_feature_t feature;
   if (kus_feature_from_string (word, length, &feature)) read_all (&feature, sizeof feature);
   kus_tag_to_string (kus_script_from_string (word, length), tag);
+  kus_tag_to_string (kus_tag_from_string (word, length), tag);
   kus_script_from_iso15924_tag (some_tag ());
   kus_direction_to_string (kus_direction_from_string (word, length));
   free_block (word, length);
