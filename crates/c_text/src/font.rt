@@ -223,6 +223,7 @@ impl Font {
         ensures set { result ≡ 0 → (advances_refusal self.old.input.face given.now ≡ 0)
             × (self.new ≡ font_with_advances given.now self.old) }
         ensures refused { result ≢ 0 → result ≢ 26 → result ≡ advances_refusal self.old.input.face given.now }
+        ensures shared { result ≡ 26 → advances_refusal self.old.input.face given.now ≡ 0 }
         ensures kept { result ≢ 0 → self.new ≡ self.old }
     {
         self.input.set_advances(given)

@@ -134,6 +134,7 @@ impl Input {
         ensures set { result ≡ 0 → (advances_refusal self.old.face given.now ≡ 0)
             × (self.new ≡ record self.old { face = with_advances given.now self.old.face }) }
         ensures refused { result ≢ 0 → result ≢ 26 → result ≡ advances_refusal self.old.face given.now }
+        ensures shared { result ≡ 26 → advances_refusal self.old.face given.now ≡ 0 }
         ensures kept { result ≢ 0 → self.new ≡ self.old }
     {
         let refusal = advances_refusal(&self.face, given);

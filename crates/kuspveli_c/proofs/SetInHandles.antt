@@ -20,6 +20,10 @@ pub advances_refused : (font : Option KeptFont) (f : KeptFont) (given : List kus
     → (status ≢ 0 → status ≢ 26 → status ≡ advances_refusal f.input.face given) → status ≢ 0 → status ≢ 26 → status ≡ advances_refusal_in font given
 advances_refused font f given status there refused some own = refused some own ∙ sym (ap (λ k. advances_refusal_in k given) there)
 
+pub advances_shared : (font : Option KeptFont) (f : KeptFont) (given : List kus_glyph_advance_t) (status : ℕ) → font ≡ Some f
+    → (status ≡ 26 → advances_refusal f.input.face given ≡ 0) → status ≡ 26 → advances_refusal_in font given ≡ 0
+advances_shared font f given status there taken shared = ap (λ k. advances_refusal_in k given) there ∙ taken shared
+
 -- ---- characters' glyphs
 
 pub glyphs_set : (font new : Option KeptFont) (f g : KeptFont) (given : List kus_character_glyph_t) (status : ℕ) → font ≡ Some f → new ≡ Some g

@@ -13,7 +13,7 @@ use std::alloc::Global;
 /// from then on have the positions of a font with these advances. Of a glyph that is named twice the last one counts. A
 /// list is refused by its first glyph that the font has no advance of, or first advance above 65535, and where other
 /// handles share the font; then nothing changes. The glyphs of the last text stay as they are.
-#[tactic(auto, using(crate::proofs::SetInHandles::advances_set, crate::proofs::SetInHandles::advances_refused))]
+#[tactic(auto, using(crate::proofs::SetInHandles::advances_set, crate::proofs::SetInHandles::advances_refused, crate::proofs::SetInHandles::advances_shared))]
 #[unsafe(no_mangle)]
 pub extern "C" fn kus_font_set_advances(
     alloc: Global,
@@ -23,6 +23,7 @@ pub extern "C" fn kus_font_set_advances(
     ensures set { result ≡ 0 → (advances_refusal_in font.old.value advances.now ≡ 0)
         × IfSome font.old.value (λ f. font.new.value ≡ Some (font_with_advances advances.now f)) }
     ensures refused { result ≢ 0 → result ≢ 26 → result ≡ advances_refusal_in font.old.value advances.now }
+    ensures shared { result ≡ 26 → advances_refusal_in font.old.value advances.now ≡ 0 }
     ensures kept { result ≢ 0 → font.new.value ≡ font.old.value }
 {
     let Some(mut changed) = font.take(alloc) else {
