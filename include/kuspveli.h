@@ -1,9 +1,11 @@
 /* Kuspveli: a text shaper that is proved right. Numbers and structs are HarfBuzz's.
  *
  *     kus_font_t font = KUS_FONT_INIT;
+ *     kus_glyphs_t glyphs = KUS_GLYPHS_INIT;
  *     kus_font_create_from_bytes (&font, NULL, file, file_length, 0, KUS_FONT_DEFAULT);
  *     kus_text_t text = kus_text ("office", 6);
- *     kus_shape (&font, &text, infos, room, positions, room, &count);
+ *     kus_shape_glyphs (&font, &text, &glyphs);
+ *     kus_glyphs_free (&glyphs);
  *     kus_font_destroy (&font);
  *
  * What the caller has to keep, and nothing checks:
@@ -28,6 +30,7 @@
 #include <stdbool.h>
 #include <stddef.h>
 #include <stdint.h>
+#include <stdlib.h>
 
 #ifdef __cplusplus
 extern "C" {
@@ -300,6 +303,73 @@ kus_status_t kus_shape (kus_font_t *font, const kus_text_t *text, kus_glyph_info
 /* Writes the glyphs of the last text of this handle, as far as there is room, and returns how many there are. */
 size_t kus_get_glyphs (kus_font_t *font, kus_glyph_info_t *infos, size_t infos_room, kus_glyph_position_t *positions,
                        size_t positions_room);
+
+/* Arrays of glyphs and positions, KUS_GLYPHS_INIT at first, which kus_shape_glyphs makes as large as a text needs: `count`
+ * items of each. */
+typedef struct {
+  kus_glyph_info_t *infos;
+  kus_glyph_position_t *positions;
+  size_t count, room;
+} kus_glyphs_t;
+
+#define KUS_GLYPHS_INIT { 0, 0, 0, 0 }
+
+/* Gives arrays room for so many glyphs, by realloc(); whether there was the memory. Room that is added a second time is half
+ * as much again at least, so that texts of rising length don't move them each time. */
+static inline bool
+kus_glyphs_reserve (kus_glyphs_t *glyphs, size_t count)
+{
+  size_t more = glyphs->room + glyphs->room / 2, room = count < more ? more : count;
+  void *infos, *positions;
+  if (count <= glyphs->room)
+    return true;
+  if (room > (size_t) -1 / sizeof *glyphs->infos)
+    return false;
+  infos = realloc (glyphs->infos, room * sizeof *glyphs->infos);
+  if (!infos)
+    return false;
+  glyphs->infos = (kus_glyph_info_t *) infos;
+  positions = realloc (glyphs->positions, room * sizeof *glyphs->positions);
+  if (!positions)
+    return false;
+  glyphs->positions = (kus_glyph_position_t *) positions;
+  glyphs->room = room;
+  return true;
+}
+
+/* Shapes a text as kus_shape does, and gives all its glyphs without a room to be guessed; they stay until the next call with
+ * the same arrays. On a fault there are none. */
+static inline kus_status_t
+kus_shape_glyphs (kus_font_t *font, const kus_text_t *text, kus_glyphs_t *glyphs)
+{
+  size_t count = 0;
+  kus_status_t status;
+  glyphs->count = 0;
+  if (!kus_glyphs_reserve (glyphs, 16))
+    return KUS_OUT_OF_MEMORY;
+  status = kus_shape (font, text, glyphs->infos, glyphs->room, glyphs->positions, glyphs->room, &count);
+  if (count > glyphs->room) {
+    if (!kus_glyphs_reserve (glyphs, count))
+      return KUS_OUT_OF_MEMORY;
+    kus_get_glyphs (font, glyphs->infos, glyphs->room, glyphs->positions, glyphs->room);
+  }
+  glyphs->count = count;
+  return status;
+}
+
+/* Frees the arrays, and leaves KUS_GLYPHS_INIT. */
+static inline void
+kus_glyphs_free (kus_glyphs_t *glyphs)
+{
+  static const kus_glyphs_t none = KUS_GLYPHS_INIT;
+  free (glyphs->infos);
+  free (glyphs->positions);
+  *glyphs = none;
+}
+
+/* A font keeps the room in which it shaped its longest text, for the next one. This gives back what the glyphs of the last
+ * text don't need; they stay. Call it after texts much longer than those to come, or before a font is left alone. */
+void kus_font_shrink (kus_font_t *font);
 
 /* Gives glyphs advances in a horizontal line, in font units, as a client measures them (hinted ones, say): from then on
  * texts are shaped as in a font with these advances, so marks that are attached and cursive chains have them in their

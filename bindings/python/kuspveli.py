@@ -37,6 +37,8 @@ ENCODINGS = {"bytes": ("utf-8", 0), "utf16": (f"utf-16-{ORDER}", 0x10000), "char
 # How many bytes a unit of each has.
 UNIT_SIZES = {"bytes": 1, "utf16": 2, "characters": 4}
 NO_SLICES = 18
+# How many glyphs a font has arrays for from text to text; a longer text has its own.
+KEPT = 512
 # The faults of font files, and how long the text of one is at most.
 FILE_FAULTS, MOST_OF_A_TEXT = range(20, 26), 64
 # What a tag is made of: printed ASCII characters (OpenType).
@@ -145,6 +147,7 @@ def load(path: Union[str, "os.PathLike[str]"]) -> ctypes.CDLL:
     declare(found, "kus_font_set_invisible_glyph", u32, handle, u32)
     declare(found, "kus_font_set_not_found_glyph", u32, handle, u32)
     declare(found, "kus_font_set_scale", u32, handle, ctypes.c_int32, ctypes.c_int32)
+    declare(found, "kus_font_shrink", None, handle)
     declare(found, "kus_get_direction", u32, handle)
     declare(found, "kus_get_script", u32, handle)
     declare(found, "kus_get_slices", u32, handle, bytes_, size, ctypes.POINTER(RawSlice), size, ctypes.POINTER(size))
@@ -627,6 +630,8 @@ class Font(Held):
     _end, _count = 0, 0
     _text: Optional[RawText] = None
     _premises: Optional[int] = None
+    # Arrays of KEPT glyphs, which each text is written to: glyphs, their room, positions, their room.
+    _kept: Any = None
 
     @overload
     def __init__(
@@ -797,18 +802,24 @@ class Font(Held):
     def _shaped(self, raw: RawText, own: bytes, clusters: str) -> Arrays:
         need_stack(SHAPING)
         self._end, self._count, self._text = 0, 0, None
-        room = max(64, len(own))
-        infos, positions, count = (RawInfo * room)(), (RawPosition * room)(), ctypes.c_size_t()
-        check(LIBRARY.kus_shape(self._handle, raw, infos, room, positions, room, count))
-        if count.value > room:
-            room = count.value
-            infos, positions = (RawInfo * room)(), (RawPosition * room)()
-            LIBRARY.kus_get_glyphs(self._handle, infos, room, positions, room)
+        count = ctypes.c_size_t()
+        self._kept = rooms = self._kept or rooms_of(KEPT)
+        check(LIBRARY.kus_shape(self._handle, raw, *rooms, count))
+        if count.value > KEPT:
+            rooms = rooms_of(count.value)
+            LIBRARY.kus_get_glyphs(self._handle, *rooms)
+        infos, _, positions, _ = rooms
         arrays = arrays_of(infos, positions, count.value, character_indices(own, clusters))
         if self._measure(arrays.numbers):
             return self._shaped(raw, own, clusters)
         self._end, self._count, self._text = len(own) // UNIT_SIZES[clusters], count.value, raw
         return arrays
+
+    def shrink(self) -> None:
+        """Gives back the memory that the glyphs of the last text don't need: a font keeps that of its longest text."""
+        with self._lock:
+            self._kept = None
+            LIBRARY.kus_font_shrink(self._handle)
 
     def _measure(self, glyphs: Iterable[int]) -> bool:
         """Sets the advances of glyphs that the caller's function was not asked for yet; whether one is another than the
@@ -1049,12 +1060,16 @@ def raw_text(
     return raw, own
 
 
+def rooms_of(count: int) -> tuple[Any, int, Any, int]:
+    """Arrays of the library's structs for so many glyphs and their positions, each before its length."""
+    return (RawInfo * count)(), count, (RawPosition * count)(), count
+
+
 def arrays_of(infos: Any, positions: Any, count: int, indices: Optional["array[int]"]) -> Arrays:
     """The glyphs of the library's structs, each of five numbers of 32 bits."""
-    unsigned, signed = array("I"), array("i")
-    unsigned.frombytes(memoryview(infos).cast("B")[: count * ctypes.sizeof(RawInfo)])
-    signed.frombytes(memoryview(positions).cast("B")[: count * ctypes.sizeof(RawPosition)])
-    numbers, flags, clusters = unsigned[0::5], unsigned[1::5], unsigned[2::5]
+    unsigned = memoryview(infos).cast("B").cast("I")[: 5 * count]
+    signed = memoryview(positions).cast("B").cast("i")[: 5 * count]
+    numbers, flags, clusters = (array("I", unsigned[k::5].tobytes()) for k in range(3))
     characters = clusters if indices is None else array("I", (indices[cluster] for cluster in clusters))
-    x_advances, y_advances, x_offsets, y_offsets = (signed[k::5] for k in range(4))
+    x_advances, y_advances, x_offsets, y_offsets = (array("i", signed[k::5].tobytes()) for k in range(4))
     return Arrays(numbers, clusters, flags, x_advances, y_advances, x_offsets, y_offsets, characters)

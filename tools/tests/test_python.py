@@ -195,6 +195,19 @@ class Answered(unittest.TestCase):
         self.assertEqual(self.font.shape(""), [])
         self.assertEqual(len(self.font.shape("ab" * 5000)), 10000)
 
+    def test_room(self) -> None:
+        """Texts that just fit the arrays that a font keeps, and longer ones; shrinking leaves the last text's glyphs."""
+        for count in (self.binding.KEPT + more for more in (-1, 0, 1, 5000, -2)):
+            arrays = self.font.shape_arrays("a" * (count - 1) + "b")
+            self.assertEqual(arrays.numbers, array("I", [1] * (count - 1) + [2]))
+            self.assertEqual(arrays.clusters, array("I", range(count)))
+            self.assertEqual(arrays.x_advances, array("i", [500] * (count - 1) + [600]))
+            lines = self.font.cut_lines([count], 1)
+            self.font.shrink()
+            self.assertEqual(self.font.cut_lines([count], 1), lines)
+        self.font.close()
+        self.font.shrink()
+
     def test_clusters(self) -> None:
         """Clusters and the ranges of features count bytes of UTF-8, units of UTF-16 or characters."""
         font, text = self.binding.Font(TABLES, FONT), "b\U0001f600fi"

@@ -73,6 +73,9 @@ impl Table {
     }
 }
 
+/// How many glyphs a font has room for at least.
+const LEAST_ROOM: usize = 64;
+
 /// How many fonts the bytes of a font file have; 0 where they are no font file.
 pub fn count_fonts(bytes: &[u8]) -> usize {
     unsafe { kus_count_fonts(bytes.as_ptr(), bytes.len()) }
@@ -104,8 +107,8 @@ impl Font {
     fn empty() -> Font {
         Font {
             handle: Shared::empty(),
-            infos: vec![GlyphInfo::default(); 64],
-            positions: vec![GlyphPosition::default(); 64],
+            infos: vec![GlyphInfo::default(); LEAST_ROOM],
+            positions: vec![GlyphPosition::default(); LEAST_ROOM],
             count: 0,
         }
     }
@@ -226,6 +229,17 @@ impl Font {
             infos: &self.infos[..self.count],
             positions: &self.positions[..self.count],
         }
+    }
+
+    /// Gives back the memory that the last text's glyphs don't need: a font keeps that of its longest text, for the next
+    /// one.
+    pub fn shrink_to_fit(&mut self) {
+        unsafe { kus_font_shrink(self.handle.own()) };
+        let room = self.count.max(LEAST_ROOM);
+        self.infos.truncate(room);
+        self.infos.shrink_to_fit();
+        self.positions.truncate(room);
+        self.positions.shrink_to_fit();
     }
 
     /// The slices of the last text, one of a `str`, which is passed again: each run of glyphs of one cluster, in the order of the

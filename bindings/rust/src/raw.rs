@@ -221,6 +221,7 @@ extern "C" {
     pub(crate) fn kus_font_set_invisible_glyph(font: *mut Handle, glyph: u32) -> u32;
     pub(crate) fn kus_font_set_not_found_glyph(font: *mut Handle, glyph: u32) -> u32;
     pub(crate) fn kus_font_set_scale(font: *mut Handle, x_scale: i32, y_scale: i32) -> u32;
+    pub(crate) fn kus_font_shrink(font: *mut Handle);
     pub(crate) fn kus_get_direction(font: *mut Handle) -> u32;
     pub(crate) fn kus_get_script(font: *mut Handle) -> u32;
     pub(crate) fn kus_get_slices(

@@ -108,3 +108,18 @@ fn lines_have_metrics() -> Result<(), Fault> {
     assert_eq!(Font::new(b"{}", FONT)?.line_metrics(), None);
     Ok(())
 }
+
+/// The glyphs stay; a later text has its own.
+#[test]
+fn room_is_given_back() -> Result<(), Fault> {
+    let mut font = Font::new(b"{}", FONT)?;
+    font.shrink_to_fit();
+    assert_eq!(glyphs(&mut font, &"ab".repeat(5000))?.len(), 10000);
+    for text in ["fi", &"ba".repeat(100), ""] {
+        let last = font.shape(&Text::new(text))?.into_owned();
+        font.shrink_to_fit();
+        assert_eq!(font.glyphs(), last.as_glyphs());
+        assert_eq!(font.shape(&Text::new(text))?, last.as_glyphs());
+    }
+    Ok(())
+}

@@ -320,6 +320,13 @@ impl Font {
         self.buffer = glyphs.into_buffer();
     }
 
+    /// Frees room that the last text's glyphs don't need, as that of longer texts before it. It changes nothing that is seen.
+    pub fn shrink_to_fit(&mut self)
+        ensures { self.new ≡ self.old }
+    {
+        self.buffer.shrink_to_fit();
+    }
+
     /// Writes the slices of the last text, as many as there is room for, and how many there are; answers a status.
     #[tactic(auto, using(crate::proofs::Slices::glyphs_put_back, crate::proofs::Slices::slices_of_taken, crate::proofs::Slices::taken_refuse_slices))]
     pub fn write_slices(

@@ -320,3 +320,15 @@ pub extern "C" fn kus_get_glyphs(
     font.put(alloc, shown);
     count
 }
+
+/// Frees room that the glyphs of the last text don't need, as that of longer texts before it; the glyphs stay.
+#[unsafe(no_mangle)]
+pub extern "C" fn kus_font_shrink(alloc: Global, font: &mut Handle)
+    ensures { font.new.value ≡ font.old.value }
+{
+    let Some(mut kept) = font.take(alloc) else {
+        return;
+    };
+    kept.shrink_to_fit();
+    font.put(alloc, kept);
+}

@@ -9,7 +9,8 @@ mod texts;
 
 use crate::calls::{
     kus_font_create, kus_font_create_with_tables, kus_font_destroy, kus_font_reference,
-    kus_get_glyphs, kus_shape, kus_tables_create, kus_tables_destroy, kus_tables_reference,
+    kus_font_shrink, kus_get_glyphs, kus_shape, kus_tables_create, kus_tables_destroy,
+    kus_tables_reference,
 };
 use crate::queries::{
     kus_font_get_ascender, kus_font_get_feature_tags, kus_font_get_glyph_extents,
@@ -177,6 +178,7 @@ fn handles_are_apart(
     let gone = is_shaped(alloc, font, &text_of(b"ab", 0, &[]), 16, &[]);
     let joined = [(1, 0, 500), (7, 1, 520)];
     let second = is_shaped(alloc, other, &text_of(b"afi", 0, &[]), 0, &joined);
+    kus_font_shrink(alloc, other);
     let (mut infos, mut positions) = ([INFO; 3], [POSITION; 3]);
     let count = kus_get_glyphs(alloc, other, &mut infos, &mut positions);
     let unwritten = kus_get_glyphs(alloc, font, &mut [], &mut []);

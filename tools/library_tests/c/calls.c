@@ -12,6 +12,7 @@
 
 static kus_font_t fonts[NUM_FONTS];
 static kus_tables_t tables[NUM_TABLES];
+static kus_glyphs_t all = KUS_GLYPHS_INIT;
 static size_t statuses[NUM_STATUSES], shaped, glyphs;
 static bytes_t *files;
 static unsigned num_files;
@@ -319,12 +320,34 @@ try_glyphs (kus_font_t *font, const kus_text_t *text)
   return count;
 }
 
+/* All glyphs of a text in arrays that grow, beside those that the handle gives again; how many there are. */
+static size_t
+try_all_glyphs (kus_font_t *font, const kus_text_t *text)
+{
+  kus_status_t status = kus_shape_glyphs (font, text, &all);
+  note (status);
+  if (status != KUS_OK && all.count) fail ("glyphs", "of a fault");
+  shaped += status == KUS_OK;
+  glyphs += all.count;
+  if (once_in (3)) kus_font_shrink (font);
+  size_t count = all.count;
+  kus_glyph_info_t *infos = block (count * sizeof *infos);
+  kus_glyph_position_t *positions = block (count * sizeof *positions);
+  if (kus_get_glyphs (font, infos, count, positions, count) != count) fail ("glyphs", "of another number");
+  if (memcmp (infos, all.infos, count * sizeof *infos)) fail ("glyphs", "that are others");
+  if (memcmp (positions, all.positions, count * sizeof *positions)) fail ("positions", "that are others");
+  free_block (infos, count * sizeof *infos);
+  free_block (positions, count * sizeof *positions);
+  if (once_in (9)) kus_glyphs_free (&all);
+  return count;
+}
+
 static void
 call_shape (void)
 {
   kus_text_t text = drawn_text ();
   kus_font_t *font = some_font ();
-  size_t count = try_glyphs (font, &text);
+  size_t count = once_in (4) ? try_all_glyphs (font, &text) : try_glyphs (font, &text);
   if (once_in (3) && try_glyphs (font, NULL) != count) fail ("glyphs", "of another number");
   if (once_in (3)) try_slices (font, &text);
   size_t end = once_in (20) ? below (2 * MOST_CHARACTERS) : end_of (&text);
@@ -597,6 +620,7 @@ main (int argc, char **argv)
   for (unsigned long at = 0; at < count; at++) make_call ();
   for (int i = 0; i < NUM_FONTS; i++) kus_font_destroy (&fonts[i]);
   for (int i = 0; i < NUM_TABLES; i++) kus_tables_destroy (&tables[i]);
+  kus_glyphs_free (&all);
   for (unsigned i = 0; i < num_files; i++) free (files[i].bytes);
   free (files);
   printf ("%lu calls, %zu texts shaped to %zu glyphs", count, shaped, glyphs);

@@ -1,7 +1,8 @@
 /* many TABLES FONT CALLS WORD..: calls on four threads, each with a handle of its own over one font, give the glyphs
  * that the first call gave; memory is counted, and none is left; each allocation of a call is refused in turn, and of a
- * font file each allocation of the call that reads it. The linker passes the library's calls of malloc and its kin
- * through the counters here (--wrap). */
+ * font file each allocation of the call that reads it; a font gives back the room of a long text. The linker passes the
+ * library's calls of malloc and its kin through the counters here (--wrap). */
+#include <malloc.h>
 #include <pthread.h>
 #include <stdatomic.h>
 #include "common.h"
@@ -15,7 +16,7 @@ void *__real_realloc (void *, size_t);
 void *__real_aligned_alloc (size_t, size_t);
 void __real_free (void *);
 
-static atomic_long live;
+static atomic_long live, live_bytes;
 /* The allocation of this number is refused; 0 for none. */
 static _Thread_local long refused;
 
@@ -31,6 +32,7 @@ __wrap_malloc (size_t size)
   if (refuses ()) return NULL;
   void *at = __real_malloc (size);
   live += at != NULL;
+  live_bytes += (long) malloc_usable_size (at);
   return at;
 }
 
@@ -38,8 +40,10 @@ void *
 __wrap_realloc (void *from, size_t size)
 {
   if (refuses ()) return NULL;
+  long before = (long) malloc_usable_size (from);
   void *at = __real_realloc (from, size);
   live += !from && at;
+  if (at) live_bytes += (long) malloc_usable_size (at) - before;
   return at;
 }
 
@@ -49,6 +53,7 @@ __wrap_aligned_alloc (size_t alignment, size_t size)
   if (refuses ()) return NULL;
   void *at = __real_aligned_alloc (alignment, size);
   live += at != NULL;
+  live_bytes += (long) malloc_usable_size (at);
   return at;
 }
 
@@ -56,6 +61,7 @@ void
 __wrap_free (void *at)
 {
   live -= at != NULL;
+  live_bytes -= (long) malloc_usable_size (at);
   __real_free (at);
 }
 
@@ -120,6 +126,59 @@ refuse_each (kus_font_t *font)
     if (!reached && !told) fail ("refused memory", "and no call said so");
     if (!reached) return at - 1;
   }
+}
+
+static int
+are_first (const kus_glyphs_t *glyphs)
+{
+  return glyphs->count == first[0].count && !memcmp (glyphs->infos, first[0].infos, glyphs->count * sizeof *glyphs->infos)
+         && !memcmp (glyphs->positions, first[0].positions, glyphs->count * sizeof *glyphs->positions);
+}
+
+/* The same of a call that gives all glyphs in arrays that grow. */
+static int
+refuse_arrays (kus_font_t *font)
+{
+  kus_text_t text = kus_text (words[0], strlen (words[0]));
+  for (int at = 1;; at++) {
+    kus_glyphs_t glyphs = KUS_GLYPHS_INIT;
+    refused = at;
+    kus_status_t status = kus_shape_glyphs (font, &text, &glyphs);
+    int reached = !refused;
+    refused = 0;
+    if (status == KUS_OUT_OF_MEMORY ? !reached || glyphs.count : status != KUS_OK || !are_first (&glyphs))
+      fail ("refused memory", "of arrays");
+    if (kus_shape_glyphs (font, &text, &glyphs) != KUS_OK || !are_first (&glyphs)) fail ("refused memory", "and then other arrays");
+    kus_glyphs_free (&glyphs);
+    if (!reached) return at - 1;
+  }
+}
+
+/* After a text of LONG times the first word a font keeps its room; once it is shrunk over the first word it has at most
+ * SPARE bytes more than before, and the glyphs of the last text are still there. */
+#define LONG 10000
+#define SPARE 4096
+
+static void
+shrink (kus_font_t *font)
+{
+  static result_t made;
+  size_t length = strlen (words[0]);
+  char *bytes = __real_malloc (LONG * length);
+  for (size_t k = 0; k < LONG; k++) memcpy (bytes + k * length, words[0], length);
+  kus_text_t text = kus_text (bytes, LONG * length);
+  kus_glyphs_t all = KUS_GLYPHS_INIT;
+  if (shape (font, words[0], &made) != KUS_OK) fail ("not shaped", words[0]);
+  kus_font_shrink (font);
+  long before = live_bytes;
+  if (kus_shape_glyphs (font, &text, &all) != KUS_OK || all.count < LONG) fail ("not shaped", "a long text");
+  kus_glyphs_free (&all);
+  if (shape (font, words[0], &made) != KUS_OK || live_bytes < before + LONG) fail ("a long text", "left no room");
+  kus_font_shrink (font);
+  if (live_bytes > before + SPARE) fail ("shrink", "keeps the room of a long text");
+  made.count = kus_get_glyphs (font, made.infos, MOST, made.positions, MOST);
+  if (!same (&made, &first[0])) fail ("shrink", "changes glyphs");
+  __real_free (bytes);
 }
 
 static int
@@ -216,6 +275,8 @@ main (int count, char **arguments)
   if (live != steady) fail ("calls leave memory", "");
   int refusals = refuse_each (&font);
   refusals += refuse_lines (&font);
+  refusals += refuse_arrays (&font);
+  shrink (&font);
   if (live != steady) fail ("refused calls leave memory", "");
   kus_font_destroy (&font);
   if (live != before) fail ("fonts leave memory", "");
