@@ -39,6 +39,8 @@ UNIT_SIZES = {"bytes": 1, "utf16": 2, "characters": 4}
 NO_SLICES = 18
 # How many glyphs a font has arrays for from text to text; a longer text has its own.
 KEPT = 512
+# How many glyphs are copied at once.
+PART = 4096
 # The faults of font files, and how long the text of one is at most.
 FILE_FAULTS, MOST_OF_A_TEXT = range(20, 26), 64
 # What a tag is made of: printed ASCII characters (OpenType).
@@ -1067,9 +1069,27 @@ def rooms_of(count: int) -> tuple[Any, int, Any, int]:
 
 def arrays_of(infos: Any, positions: Any, count: int, indices: Optional["array[int]"]) -> Arrays:
     """The glyphs of the library's structs, each of five numbers of 32 bits."""
-    unsigned = memoryview(infos).cast("B").cast("I")[: 5 * count]
-    signed = memoryview(positions).cast("B").cast("i")[: 5 * count]
-    numbers, flags, clusters = (array("I", unsigned[k::5].tobytes()) for k in range(3))
+    numbers, flags, clusters = columns("I", infos, count, 3)
     characters = clusters if indices is None else array("I", (indices[cluster] for cluster in clusters))
-    x_advances, y_advances, x_offsets, y_offsets = (array("i", signed[k::5].tobytes()) for k in range(4))
+    x_advances, y_advances, x_offsets, y_offsets = columns("i", positions, count, 4)
     return Arrays(numbers, clusters, flags, x_advances, y_advances, x_offsets, y_offsets, characters)
+
+
+def columns(kind: str, rows: Any, count: int, number: int) -> "list[array[int]]":
+    """The first numbers of rows of five each, as arrays. Of a long text a part of the rows at a time is copied, which
+    takes little memory beside the arrays and is still in the processor's cache."""
+    taken = memoryview(rows).cast("B")[: 20 * count]
+    if count <= PART:
+        return [*split(kind, taken, number)]
+    made = [array(kind, (0,)) * count for _ in range(number)]
+    for at in range(0, count, PART):
+        for column, part in zip(made, split(kind, taken[20 * at : 20 * (at + PART)], number)):
+            column[at : at + PART] = part
+    return made
+
+
+def split(kind: str, rows: memoryview, number: int) -> "Iterable[array[int]]":
+    """The first numbers of rows of five each."""
+    part = array(kind)
+    part.frombytes(rows)
+    return (part[k::5] for k in range(number))

@@ -197,7 +197,7 @@ class Answered(unittest.TestCase):
 
     def test_room(self) -> None:
         """Texts that just fit the arrays that a font keeps, and longer ones; shrinking leaves the last text's glyphs."""
-        for count in (self.binding.KEPT + more for more in (-1, 0, 1, 5000, -2)):
+        for count in (self.binding.KEPT + more for more in (-1, 0, 1, 3583, 3584, 3585, 9000, -2)):
             arrays = self.font.shape_arrays("a" * (count - 1) + "b")
             self.assertEqual(arrays.numbers, array("I", [1] * (count - 1) + [2]))
             self.assertEqual(arrays.clusters, array("I", range(count)))
