@@ -1,4 +1,7 @@
 //! The calls that set what a client wants of a font, as `include/kuspveli.h` declares them.
+//!
+//! The calls have one form, each by its own definition of what it sets: a font is taken out of its handle, changed and put
+//! back.
 ghost use Rattle.std.specs.Prelude.{◌≡◌, ◌≢◌, IfNone, IfSome, Some};
 ghost use Rattle.c_text.specs.Fonts.{AreSetAtFrontIn, advances_refusal_in, font_with_advances, font_with_glyphs, font_with_invisible, font_with_not_found, glyphs_refusal_in};
 ghost use Rattle.c_text.specs.Replacements.{glyph_status};

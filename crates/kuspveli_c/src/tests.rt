@@ -1,7 +1,7 @@
 //! With ample memory the calls give glyphs and slices: no clause says that a call does anything but refuse for want of memory.
 //!
 //! A test owns handles and asserts once; what it asserts is found by a function that owns nothing and answers true or false,
-//! or fails for want of memory.
+//! or fails for want of memory. Tests have this form here and in the modules.
 mod files;
 mod lines;
 mod settings;

@@ -2,6 +2,9 @@
 //!
 //! Two of them are of all characters, that joining types are kept and that graphemes are. Each is walked by functions of
 //! one form, which say its own definition.
+//!
+//! `shape_breaks` (`tables`) has the functions on one character's joining type too. This program tries the promise for all
+//! shapers, also where no law gives it, so it says the premises itself and uses neither that crate nor `shape_laws`.
 ghost use Rattle.std.specs.Prelude.{◌≡◌, ◌↔◌, ◌&&◌, true, IsTrue, chars, length, nat_lt};
 ghost use lib.Utf8.{scalar};
 ghost use Rattle.unicode.specs.GeneralCategory.{general_category};

@@ -1,4 +1,6 @@
 //! Tables and fonts that keep what the law asks, and those that fail one premise.
+//!
+//! Cases are data: each is written whole, however alike two are.
 use crate::data::{FONT, ReadTables, face_of};
 use buffer_unicode_tables::UnicodeTables;
 use shape_breaks::BreakPremises;

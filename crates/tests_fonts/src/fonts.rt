@@ -1,5 +1,7 @@
 //! The fonts of a collection: characters, metrics, names and rules as hb-shape shows them (`--show-extents`, from the top
 //! down too), and what is no font.
+//!
+//! `has_ligature` and `has_pair` have one form, since the lookups of GSUB and of GPOS are types of their own.
 use crate::rows::COLLECTION;
 use font_bytes::fault::TableFault;
 use font_file::{FontParts, font_count, read_font};

@@ -1,5 +1,7 @@
 //! Subtables, by an example of the OpenType specification (chapter GPOS, example 2), by bytes written out after its formats,
 //! and by what fonts leave out.
+//!
+//! `substitutions` has the same test of what is left out, over readers of its own table.
 use font_bytes::fault::TableFault;
 use font_bytes::room::Room;
 use font_positioning::cursive::read_cursive_pos;

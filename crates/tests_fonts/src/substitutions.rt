@@ -1,4 +1,6 @@
 //! Subtables, by the examples of the OpenType specification (chapter GSUB, examples 2 to 6) and by what fonts leave out.
+//!
+//! `positions` has the same test of what is left out, over readers of its own table.
 use font_bytes::fault::TableFault;
 use font_bytes::room::Room;
 use font_substitution::ligature::read_ligature_subst;

@@ -1,4 +1,7 @@
 //! The options of rows.
+//!
+//! `tests_run` (`memory`) has `plain_options` too: of the crates of tests none names another one, and the program makes its
+//! options of words alone.
 
 use crate::fault::RowFault;
 use buffer_common::constants::BufferFlags;

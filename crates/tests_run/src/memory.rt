@@ -1,4 +1,7 @@
 //! Runs over memory, and rows of tests.
+//!
+//! `tests_rows` (`options`) has `plain_options` too: of the crates of tests none names another one, and the program makes
+//! its options of words alone.
 use buffer_common::constants::BufferFlags;
 use buffer_common::direction::Direction;
 use buffer_glyphs::flags::SerializeFlags;

@@ -1,4 +1,6 @@
 //! The tables of rows: what a call makes of each row is as the row says.
+//!
+//! The list of tables has the form of that of `tests_text` (`rows`): each names the modules of its own crate.
 use crate::indic::{font_rows, fonts, rows as orders};
 use crate::normalizing::{indic as indic_texts, lists};
 use crate::rows::{is_row, rows_of};

@@ -1,4 +1,6 @@
 //! Tables of rows: what is asked, and the answer. Each module has a table, and says whether a row of it is so.
+//!
+//! The list of tables has the form of that of `tests_stages` (`tables`): each names the modules of its own crate.
 use crate::{
     characters, features, glyph_words, machines, names, number_rows, printing, table_faults, texts,
     unicode_characters, values, words,
