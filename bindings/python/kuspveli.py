@@ -707,6 +707,7 @@ class Font(Held):
 
     # -- texts
 
+    # Each call has all settings by name, so that editors, types and help show them.
     def shape(
         self,
         text: Text,

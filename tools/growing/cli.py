@@ -5,13 +5,13 @@ import tempfile
 from collections import defaultdict
 from pathlib import Path
 
-from building.command import positive
 from building.ready import ready_tests
 from common.faults import FILES, ToolFault
 from common.parsing import Words
 from growing.code import Function, all_functions, faults_of_memory
 from growing.refused import Trials
-from refusing.programs import BUDGET, Refusing, programs_in, shown
+from refusing.programs import Refusing, programs_in, shown
+from refusing.words import add_refusals
 from sources.crates import ROOT, all_needs, read_crates
 
 NAME = "growing_calls"
@@ -90,11 +90,7 @@ def main(words: list[str]) -> int:
     parser.add_argument("--check", action="store_true", help="print the calls that no test reaches; the status is 1 for one")
     parser.add_argument("--crate", metavar="NAME", help="the calls of one crate")
     parser.add_argument("--refuse", action="store_true", help="run the tests; the status is 1 for a wrong answer")
-    built = "where tests' programs stand that are built: there, or in crates there in out/"
-    parser.add_argument("--built", type=Path, metavar="FOLDER", help=built)
-    seconds = f"processor time of a test with all its refusals: a sample of them where it takes longer ({BUDGET})"
-    parser.add_argument("--seconds", type=positive, default=BUDGET, metavar="S", help=seconds)
-    parser.add_argument("--jobs", type=positive, metavar="N", help="how many tests run at once (as many as processors)")
+    add_refusals(parser)
     options = parser.parse_args(words)
     functions = all_functions()
     faults = faults_of_memory()

@@ -3,13 +3,13 @@
 import tempfile
 from pathlib import Path
 
-from building.command import positive
 from building.progress import Teller
 from building.ready import ready_tests
 from common.faults import FILES, WORDS, ToolFault
 from common.parsing import Words
 from common.printing import emit
-from refusing.programs import BUDGET, Ends, Refusing, programs_in, shown, tests_of
+from refusing.programs import Ends, Refusing, programs_in, shown, tests_of
+from refusing.words import add_refusals
 from sources.crates import ROOT, tested_crates
 
 NAME = "short_memory"
@@ -23,11 +23,7 @@ def main(words: list[str]) -> int:
     parser = Words(prog=NAME, description=ABOUT)
     parser.add_argument("crate", nargs="?", help="a crate's name (all crates that have tests)")
     parser.add_argument("module", nargs="?", default="", help="what the names of the tests begin with")
-    built = "where tests' programs stand that are built: there, or in crates there in out/"
-    parser.add_argument("--built", type=Path, metavar="FOLDER", help=built)
-    seconds = f"processor time of a test with all its refusals: a sample of them where it takes longer ({BUDGET})"
-    parser.add_argument("--seconds", type=positive, default=BUDGET, metavar="S", help=seconds)
-    parser.add_argument("--jobs", type=positive, metavar="N", help="how many tests run at once (as many as processors)")
+    add_refusals(parser)
     options = parser.parse_args(words)
     crates = tested_crates(ROOT)
     if options.crate not in (None, *crates):
