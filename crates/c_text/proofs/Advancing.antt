@@ -104,27 +104,6 @@ tests_hold true true false none = absurd (omega (arith, none))
 tests_hold true false advance none = absurd (omega (arith, none))
 tests_hold false row advance none = absurd (omega (arith, none))
 
--- no refusal is that of a font that is shared
-tests_unshared : (glyph row advance : Bool) → refusal_tests glyph row advance ≢ 26
-unfolding refusal_tests
-tests_unshared true true true = λ e. omega (arith, e)
-tests_unshared true true false = λ e. omega (arith, e)
-tests_unshared true false advance = λ e. omega (arith, e)
-tests_unshared false row advance = λ e. omega (arith, e)
-
-one_unshared : (font : FaceParts) (a : kus_glyph_advance_t) → advance_refusal font a ≢ 26
-unfolding refusal_tests
-one_unshared font a = tests_unshared (ltb a.glyph 65536) (is_some (value_of a.glyph font.h)) (ltb a.advance 65536)
-
-first_unshared : (b : Bool) (font : FaceParts) (a : kus_glyph_advance_t) (given : List kus_glyph_advance_t) → (advance_refusal font a == 0) ≡ b
-    → advances_refusal font given ≢ 26 → advances_refusal font (a ∷ given) ≢ 26
-first_unshared true font a given e rest = rw e rest
-first_unshared false font a given e rest = rw e (one_unshared font a)
-
-pub all_unshared : (font : FaceParts) (given : List kus_glyph_advance_t) → advances_refusal font given ≢ 26
-all_unshared font [] = λ e. omega (arith, e)
-all_unshared font (a ∷ given) = first_unshared (advance_refusal font a == 0) font a given refl (all_unshared font given)
-
 -- an advance that is taken, and its glyph, have 16 bits
 pub taken_fits : (font : FaceParts) (a : kus_glyph_advance_t) → advance_refusal font a ≡ 0 → (a.glyph < 65536) × (a.advance < 65536)
 unfolding refusal_tests

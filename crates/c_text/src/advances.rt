@@ -1,5 +1,5 @@
 //! Advances that a client gives a font's glyphs, as it measures them at a size.
-ghost use Rattle.std.specs.Prelude.{◌≡◌, ◌<◌, [], ◌∷◌, IsTrue, IsFalse};
+ghost use Rattle.std.specs.Prelude.{◌≡◌, ◌≢◌, ◌<◌, [], ◌∷◌, IsTrue, IsFalse};
 ghost use Rattle.std.specs.Arc.{arc_value};
 ghost use Rattle.c_text.specs.Advances.{advance_refusal, advances_refusal, has_advance, with_advances};
 
@@ -22,7 +22,8 @@ fn has_advance(face: &Face, glyph: u32) -> bool
 
 /// Why an advance isn't taken: `NO_GLYPH` or `ADVANCE_RANGE`; `OK` where it is.
 fn advance_refusal(face: &Face, given: &kus_glyph_advance_t) -> u32
-    ensures { result ≡ advance_refusal face.now given.now }
+    ensures refusal { result ≡ advance_refusal face.now given.now }
+    ensures unshared { result ≢ 26 }
 {
     if !has_advance(face, given.glyph) {
         return NO_GLYPH;
@@ -35,7 +36,8 @@ fn advance_refusal(face: &Face, given: &kus_glyph_advance_t) -> u32
 
 /// Why a list isn't taken, by its first advance that isn't; `OK` where each is.
 pub fn advances_refusal(face: &Face, given: &[kus_glyph_advance_t]) -> u32
-    ensures { result ≡ advances_refusal face.now given.now }
+    ensures refusal { result ≡ advances_refusal face.now given.now }
+    ensures unshared { result ≢ 26 }
 {
     for one in given {
         let refusal = advance_refusal(face, one);
