@@ -17,8 +17,9 @@ void *__real_aligned_alloc (size_t, size_t);
 void __real_free (void *);
 
 static atomic_long live, live_bytes;
-/* The allocation of this number is refused; 0 for none. */
-static _Thread_local long refused;
+/* The allocation of this number is refused; 0 for none. Volatile, since a compiler knows realloc() and that it writes none of
+ * the program's own variables. */
+static _Thread_local volatile long refused;
 
 static int
 refuses (void)
@@ -155,9 +156,9 @@ refuse_arrays (kus_font_t *font)
 }
 
 /* After a text of LONG times the first word a font keeps its room; once it is shrunk over the first word it has at most
- * SPARE bytes more than before, and the glyphs of the last text are still there. */
+ * SPARE bytes more than before (a list that malloc mapped keeps a page), and the glyphs of the last text are still there. */
 #define LONG 10000
-#define SPARE 4096
+#define SPARE (4 * 4096)
 
 static void
 shrink (kus_font_t *font)
