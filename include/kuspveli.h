@@ -684,11 +684,11 @@ enum {
 uint32_t kus_font_get_break_premises (kus_font_t *font);
 
 /* Of lines that kus_cut_lines gave of a text it leaves is_own only to those of which the law of safe breaks speaks: the
- * text may be cut before such a line, and what is left of it after the line; the others have no glyphs then. Two premises
- * no call tests: the text's direction is its script's, and its ligatures and nested lookups are within the law's limits. `text`
- * is the text that was shaped, with its settings, `premises` what kus_font_get_break_premises answered: a bit that it didn't
- * answer promises nothing. Of the shapers that find syllables it leaves none, but for a text of one line. Beside
- * OK it answers KUS_NO_FONT, KUS_OUT_OF_MEMORY, KUS_NOT_UTF8 and KUS_TOO_LONG, and then changes no line. */
+ * text may be cut before such a line, and what is left of it after the line; the others have no glyphs then. Three premises
+ * it doesn't test: no word is stretched by tiles, the text's direction is its script's, and its merges and nested lookups are
+ * within the law's limits. `text` is the text that was shaped, with its settings, `premises` what
+ * kus_font_get_break_premises answered: a bit that it didn't answer promises nothing. Of the shapers that find syllables it
+ * leaves none, but for a text of one line. Beside OK it answers KUS_NO_FONT, KUS_OUT_OF_MEMORY, KUS_NOT_UTF8 and KUS_TOO_LONG, and then changes no line. */
 kus_status_t kus_check_lines (kus_font_t *font, uint32_t premises, const kus_text_t *text, kus_line_t *lines,
                               size_t num_lines);
 
