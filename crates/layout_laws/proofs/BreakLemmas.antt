@@ -1,5 +1,4 @@
 pub mod Backward
-pub mod BackwardLines
 pub mod BackwardWalks
 pub mod Binding
 pub mod Blind
@@ -40,6 +39,8 @@ pub mod Seams
 pub mod Singles
 pub mod Spent
 pub mod Stages
+pub mod Standing
 pub mod Steady
 pub mod Walks
+pub mod Ways
 pub mod Words

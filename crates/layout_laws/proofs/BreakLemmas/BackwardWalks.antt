@@ -1,6 +1,6 @@
 -- A local rule that acts one for one, tried at the indices of a fragment from the right, in the text and alone.
-use Rattle.std.proofs.Common.{ℕ, zero, suc, ℤ, ◌≡◌, ◌≤◌, ◌<◌, ◌+◌, ◌⊎◌, inl, inr, true, List, [], ◌++◌, Ok, length, map, take, drop, arith, refl, ap, sym, subst, ◌∙◌, append_assoc}
-use Rattle.std.proofs.lemmas.List.{map-append, length-append, length-drop, take-append-drop}
+use Rattle.std.proofs.Common.{ℕ, zero, suc, ℤ, ◌≡◌, ◌≤◌, ◌<◌, ◌+◌, inl, inr, true, List, [], ◌++◌, Ok, length, map, take, drop, arith, refl, ap, sym, subst, ◌∙◌}
+use Rattle.std.proofs.lemmas.List.{length-append, length-drop, take-append-drop}
 use Rattle.buffer_glyphs.specs.declared.level.BufferClusterLevel.{BufferClusterLevel}
 use Rattle.buffer_glyphs.specs.Items.{Item}
 use Rattle.buffer_glyphs.specs.Events.{Event}
@@ -14,12 +14,13 @@ use Rattle.layout_substitution.specs.Lookups.{cut_at_index, backward_trials}
 use Rattle.buffer_parts.specs.Breaks.Concat.{without_concats}
 use Rattle.buffer_parts.specs.Breaks.Divisible.{merges}
 use Rattle.buffer_parts.specs.Breaks.Sides.{AreBounded}
-use Rattle.layout_laws.specs.Breaks.Frames.{Outside, Inside, framed_cut, IsFramed, IsExtended}
+use Rattle.layout_laws.specs.Breaks.Frames.{Outside, Inside, framed_cut, IsFramed}
 use Rattle.layout_laws.specs.Breaks.Binding.{BindOutside}
 use Rattle.layout_laws.specs.Breaks.Local.{AnyPositions, IsMadeInside, IsBeside, IsLocal}
 use Rattle.layout_laws.specs.Breaks.Backward.{IsOneForOne, ReplacesOneForOne, ActsOneForOne}
-use Rattle.layout_laws.proofs.BreakLemmas.Frames.{same_extended, extended_twice}
-use Rattle.layout_laws.proofs.BreakLemmas.Walks.{bounded_both, count_both, binds_more, binds_after, then_parts}
+use Rattle.layout_laws.proofs.BreakLemmas.PassWalks.{Reads, Walked}
+use Rattle.layout_laws.proofs.BreakLemmas.Frames.{same_extended}
+use Rattle.layout_laws.proofs.BreakLemmas.Walks.{then_parts, bound_first, inside_walked}
 use Rattle.layout_laws.proofs.BreakLemmas.Records.{cut_framed, cut_frames}
 use Rattle.buffer_parts.proofs.BreakLemmas.Division.{without_both, merges_both}
 use Rattle.buffer_parts.specs.Lemmas.Stages.{same_read as read_same}
@@ -77,29 +78,19 @@ recut act v (suc n) c xs ys e =
 
 -- ---- a fragment
 
--- a rule was tried at the indices of a fragment, in the text (r, from a cut of the fragment on) and alone (e): what is read then is read of
--- the text before the fragment
-pub record IsWalkedBack (act : Action) (level : BufferClusterLevel) (v u : View) (o : Outside) (s : Inside) (c : Cut) (r e : Read) : Type 0 where
-  pub end : Cut
-  pub inside : Inside
-  pub last : Read
-  pub frames : IsFramed o inside end
-  pub extended : IsExtended s c inside end
-  pub ready : IsReady inside.max_ops inside.lig_id
-  pub long : length (whole end) ≡ length (whole c)
-  pub positions : end.positions ≡ c.positions
-  pub view : e.view ≡ view_at u end
-  pub leads : backward_trials act v (length o.before) (framed_cut o inside end) ≡ Ok last
-  pub view_is : r.view ≡ last.view
-  pub events : without_concats (r.events level) ≡ map (shifted_event (length o.before)) (without_concats (e.events level)) ++ without_concats (last.events level)
-  pub bounded : AreBounded (without_concats (e.events level)) (length (whole c))
-  pub counted : count_after (without_concats (e.events level)) (length (whole c)) ≡ length (whole end)
+-- a rule is tried in a text, from a cut on, at the indices of its fragment and of what stands before it
+abbrev pub IsTriedBack : Action → View → Reads
+IsTriedBack act v o s c r = IsReady s.max_ops s.lig_id × (backward_trials act v (length o.before + length (whole c)) (framed_cut o s c) ≡ Ok r)
 
-abbrev Outcomes : Action → BufferClusterLevel → View → View → Outside → Inside → Cut → Read → Read → Type 0
-Outcomes act level v u o s c r e = BindOutside (length o.before) (length (whole c)) (length o.after) (without_concats (r.events level)) ⊎ IsWalkedBack act level v u o s c r e
+-- it is tried at the indices before the fragment
+abbrev pub IsTriedBefore : Action → View → Reads
+IsTriedBefore act v o s c r = IsReady s.max_ops s.lig_id × (backward_trials act v (length o.before) (framed_cut o s c) ≡ Ok r)
+
+abbrev WalksBack : Action → BufferClusterLevel → View → View → Outside → Inside → Cut → Read → Read → Type 0
+WalksBack act level v u o s c r e = Walked AnyPositions (IsTriedBefore act v) level u o s c r e
 
 -- the same of the fragment, cut elsewhere
-elsewhere : (act : Action) (level : BufferClusterLevel) (v u : View) (o : Outside) (s : Inside) (c : Cut) (n : ℕ) (r e : Read) → Outcomes act level v u o s (cut_at_index n c) r e → Outcomes act level v u o s c r e
+elsewhere : (act : Action) (level : BufferClusterLevel) (v u : View) (o : Outside) (s : Inside) (c : Cut) (n : ℕ) (r e : Read) → WalksBack act level v u o s (cut_at_index n c) r e → WalksBack act level v u o s c r e
 elsewhere act level v u o s c n r e (inl binds) = inl (subst (λ (k : ℕ). BindOutside (length o.before) k (length o.after) (without_concats (r.events level))) (cut_whole n c) binds)
 elsewhere act level v u o s c n r e (inr w) = inr (record {
   end = w.end;
@@ -107,9 +98,8 @@ elsewhere act level v u o s c n r e (inr w) = inr (record {
   last = w.last;
   frames = w.frames;
   extended = record { up = w.extended.up; names = w.extended.names };
-  ready = w.ready;
-  long = w.long ∙ cut_whole n c;
-  positions = w.positions;
+  some = w.some;
+  placed = tt;
   view = w.view;
   leads = w.leads;
   view_is = w.view_is;
@@ -119,59 +109,17 @@ elsewhere act level v u o s c n r e (inr w) = inr (record {
 })
 
 abbrev IsWalkable : Action → BufferClusterLevel → View → View → ℕ → Type 0
-IsWalkable act level v u n = (o : Outside) (s : Inside) (c : Cut) (r e : Read) → IsFramed o s c → n ≤ length (whole c) → IsReady s.max_ops s.lig_id → IsReady c.max_ops c.lig_id
-    → backward_trials act v (length o.before + n) (framed_cut o s c) ≡ Ok r → backward_trials act u n c ≡ Ok e → Outcomes act level v u o s c r e
-
--- what binds does so with more events after it
-bound_first : (level : BufferClusterLevel) (o : Outside) (c w : Cut) (es : List Event) (v : View) (r : Read) → BindOutside (length o.before) (length (whole c)) (length o.after) (without_concats es)
-    → BindOutside (length o.before) (length (whole c)) (length o.after) (without_concats ((then_read (with_events es v) r).events level))
-bound_first level o c w es v r binds =
-    subst (BindOutside (length o.before) (length (whole c)) (length o.after)) (sym (without_both es (r.events level))) (binds_more (length o.before) (length (whole c)) (length o.after) (without_concats es) (without_concats (r.events level)) binds)
-
--- a rule acted inside, and was then tried at the indices before
-inside_walked : (act : Action) (level : BufferClusterLevel) (v u : View) (o : Outside) (s : Inside) (c w d : Cut) (es fs : List Event) (r e : Read) → (m : IsMadeInside AnyPositions o s c w d es fs) → IsOneForOne c d fs
-    → Outcomes act level v u o m.inside d r e → Outcomes act level v u o s c (then_read (with_events es (view_at v w)) r) (then_read (with_events fs (view_at u d)) e)
-inside_walked act level v u o s c w d es fs r e m place (inl binds) =
-    let left = length o.before in
-    let size = length (whole c) in
-    let right = length o.after in
-    let gs = without_concats (r.events level) in
-    let counted : count_after (without_concats fs) size ≡ length (whole d) = place.counted size ∙ sym place.long in
-    let k : BindOutside left (count_after (without_concats fs) size) right gs = subst (λ (i : ℕ). BindOutside left i right gs) (sym counted) binds in
-    inl (subst (BindOutside left size right) (sym (without_both es (r.events level) ∙ ap (λ (xs : List Event). xs ++ gs) m.events)) (binds_after left size right (without_concats fs) gs m.bounded k))
-inside_walked act level v u o s c w d es fs r e m place (inr walk) =
-    let size = length (whole c) in
-    let g = shifted_event (length o.before) in
-    let ours = without_both fs (e.events level) in
-    let counted : count_after (without_concats fs) size ≡ length (whole d) = place.counted size ∙ sym place.long in
-    let more = count_both (without_concats fs) (without_concats (e.events level)) size in
-    inr (record {
-      end = walk.end;
-      inside = walk.inside;
-      last = walk.last;
-      frames = walk.frames;
-      extended = extended_twice s m.inside walk.inside c d walk.end m.extended walk.extended;
-      ready = walk.ready;
-      long = walk.long ∙ place.long;
-      positions = walk.positions ∙ place.positions;
-      view = walk.view;
-      leads = walk.leads;
-      view_is = walk.view_is;
-      events = without_both es (r.events level) ∙ ap (λ (xs : List Event). xs ++ without_concats (r.events level)) m.events ∙ ap (λ (xs : List Event). map g (without_concats fs) ++ xs) walk.events
-          ∙ sym (append_assoc (map g (without_concats fs)) (map g (without_concats (e.events level))) (without_concats (walk.last.events level)))
-          ∙ ap (λ (xs : List Event). xs ++ without_concats (walk.last.events level)) (sym (ap (map g) ours ∙ map-append g (without_concats fs) (without_concats (e.events level))));
-      bounded = subst (λ (xs : List Event). AreBounded xs size) (sym ours) (bounded_both (without_concats fs) (without_concats (e.events level)) size m.bounded (subst (AreBounded (without_concats (e.events level))) (sym counted) walk.bounded));
-      counted = ap (λ (xs : List Event). count_after xs size) ours ∙ more ∙ ap (count_after (without_concats (e.events level))) counted ∙ walk.counted;
-    })
+IsWalkable act level v u n = (o : Outside) (s : Inside) (c : Cut) (r e : Read) → IsFramed o s c → 0 < length (whole c) → n ≤ length (whole c) → IsReady s.max_ops s.lig_id → IsReady c.max_ops c.lig_id
+    → backward_trials act v (length o.before + n) (framed_cut o s c) ≡ Ok r → backward_trials act u n c ≡ Ok e → WalksBack act level v u o s c r e
 
 acted_walks : (act : Action) (level : BufferClusterLevel) (v u : View) (n : ℕ) → IsWalkable act level v u n → (o : Outside) (s : Inside) (c w d : Cut) (es fs : List Event) (r e : Read) → IsMadeInside AnyPositions o s c w d es fs → IsOneForOne (framed_cut o s c) w es → IsOneForOne c d fs → n ≤ length (whole c)
     → IsReady s.max_ops s.lig_id → IsReady c.max_ops c.lig_id → backward_trials act v (length o.before + n) w ≡ Ok r → backward_trials act u n d ≡ Ok e
-    → Outcomes act level v u o s c (then_read (with_events es (view_at v w)) r) (then_read (with_events fs (view_at u d)) e)
+    → WalksBack act level v u o s c (then_read (with_events es (view_at v w)) r) (then_read (with_events fs (view_at u d)) e)
 acted_walks act level v u n walk o s c w d es fs r e m theirs ours le rs rc read alone =
     let budget : m.inside.max_ops ≡ s.max_ops = ap (λ (z : Cut). z.max_ops) (sym m.cut_is) ∙ theirs.budget in
     let number : m.inside.lig_id ≡ s.lig_id = ap (λ (z : Cut). z.lig_id) (sym m.cut_is) ∙ theirs.number in
-    inside_walked act level v u o s c w d es fs r e m ours
-    (walk o m.inside d r e m.frames (omega (arith, le, ours.long)) (ap is_left budget ∙ rs.0, omega (arith, rs.1, number)) (ap is_left ours.budget ∙ rc.0, omega (arith, rc.1, ours.number))
+    inside_walked AnyPositions (IsTriedBefore act v) level v u o s c w d es fs r e m (ours.counted (length (whole c)) ∙ sym ours.long)
+    (walk o m.inside d r e m.frames m.some (omega (arith, le, ours.long)) (ap is_left budget ∙ rs.0, omega (arith, rs.1, number)) (ap is_left ours.budget ∙ rc.0, omega (arith, rc.1, ours.number))
     (ap (λ (z : Cut). backward_trials act v (length o.before + n) z) (sym m.cut_is) ∙ read) alone)
 
 -- where both pass, nothing is made
@@ -189,51 +137,50 @@ still_made o s c es fs f some theirs ours = record {
 }
 
 outcomes_walk : (act : Action) (level : BufferClusterLevel) (v u : View) (n : ℕ) → IsWalkable act level v u n → (o : Outside) (s : Inside) (c : Cut) (q p : Outcome) → IsFramed o s c → 0 < length c.rest → n ≤ length (whole c) → IsReady s.max_ops s.lig_id → IsReady c.max_ops c.lig_id
-    → IsBeside AnyPositions o s c q p → ReplacesOneForOne (framed_cut o s c) q → ReplacesOneForOne c p → (r e : Read) → after_outcome q (backward_trials act v (length o.before + n)) v (framed_cut o s c) ≡ Ok r → after_outcome p (backward_trials act u n) u c ≡ Ok e → Outcomes act level v u o s c r e
+    → IsBeside AnyPositions o s c q p → ReplacesOneForOne (framed_cut o s c) q → ReplacesOneForOne c p → (r e : Read) → after_outcome q (backward_trials act v (length o.before + n)) v (framed_cut o s c) ≡ Ok r → after_outcome p (backward_trials act u n) u c ≡ Ok e → WalksBack act level v u o s c r e
 outcomes_walk act level v u n walk o s c (Passes es) (Passes fs) f some le rs rc h theirs ours r e read alone =
     let w : Cut = framed_cut o s c in
     let a = then_parts (with_events es (view_at v w)) (backward_trials act v (length o.before + n) w) r read in
     let b = then_parts (with_events fs (view_at u c)) (backward_trials act u n c) e alone in
-    subst (λ (x : Read). Outcomes act level v u o s c x e) a.both
-    (subst (λ (y : Read). Outcomes act level v u o s c (then_read (with_events es (view_at v w)) a.rest) y) b.both
+    subst (λ (x : Read). WalksBack act level v u o s c x e) a.both
+    (subst (λ (y : Read). WalksBack act level v u o s c (then_read (with_events es (view_at v w)) a.rest) y) b.both
     (acted_walks act level v u n walk o s c w c es fs a.rest b.rest (still_made o s c es fs f some theirs ours) (passed_one_for_one w es theirs) (passed_one_for_one c fs ours) le rs rc a.rest_is b.rest_is))
 outcomes_walk act level v u n walk o s c (Passes es) (Acts d fs) f some le rs rc h theirs ours r e read alone = absurd h
 outcomes_walk act level v u n walk o s c (Passes es) (Refuses y) f some le rs rc h theirs ours r e read alone = cc
 outcomes_walk act level v u n walk o s c (Acts w es) (Passes fs) f some le rs rc h theirs ours r e read alone =
     let a = then_parts (with_events es (view_at v w)) (backward_trials act v (length o.before + n) w) r read in
-    subst (λ (x : Read). Outcomes act level v u o s c x e) a.both (inl (bound_first level o c w es (view_at v w) a.rest h))
+    subst (λ (x : Read). WalksBack act level v u o s c x e) a.both (inl (bound_first level o c es (view_at v w) a.rest h))
 outcomes_walk act level v u n walk o s c (Acts w es) (Refuses y) f some le rs rc h theirs ours r e read alone = cc
 outcomes_walk act level v u n walk o s c (Refuses x) p f some le rs rc h theirs ours r e read alone = cc
 outcomes_walk act level v u n walk o s c (Acts w es) (Acts d fs) f some le rs rc h theirs ours r e read alone =
     let a = then_parts (with_events es (view_at v w)) (backward_trials act v (length o.before + n) w) r read in
     let b = then_parts (with_events fs (view_at u d)) (backward_trials act u n d) e alone in
-    subst (λ (x : Read). Outcomes act level v u o s c x e) a.both
-    (subst (λ (y : Read). Outcomes act level v u o s c (then_read (with_events es (view_at v w)) a.rest) y) b.both
+    subst (λ (x : Read). WalksBack act level v u o s c x e) a.both
+    (subst (λ (y : Read). WalksBack act level v u o s c (then_read (with_events es (view_at v w)) a.rest) y) b.both
     (elim (h (ap is_left theirs.budget ∙ rs.0, omega (arith, theirs.merged, rs.1)) (ap is_left ours.budget ∙ rc.0, omega (arith, ours.merged, rc.1))) [
-      | inl binds ↦ inl (bound_first level o c w es (view_at v w) a.rest binds)
+      | inl binds ↦ inl (bound_first level o c es (view_at v w) a.rest binds)
       | inr made ↦ acted_walks act level v u n walk o s c w d es fs a.rest b.rest made theirs ours le rs rc a.rest_is b.rest_is
     ]))
 
-pub walks_back : (act : Action) → IsLocal AnyPositions act → ActsOneForOne act → (level : BufferClusterLevel) (v u : View) (n : ℕ) → IsWalkable act level v u n
-walks_back act local still level v u zero o s c r e f le rs rc read alone =
+walks_from : (act : Action) → IsLocal AnyPositions act → ActsOneForOne act → (level : BufferClusterLevel) (v u : View) (n : ℕ) → IsWalkable act level v u n
+walks_from act local still level v u zero o s c r e f there le rs rc read alone =
     let none : length o.before + 0 ≡ length o.before = omega arith in
-    subst (λ (y : Read). Outcomes act level v u o s c r y) (read_same (with_events [] (view_at u c)) e alone) (inr (record {
+    subst (λ (y : Read). WalksBack act level v u o s c r y) (read_same (with_events [] (view_at u c)) e alone) (inr (record {
       end = c;
       inside = s;
       last = r;
       frames = f;
       extended = same_extended s c c refl;
-      ready = rs;
-      long = refl;
-      positions = refl;
+      some = there;
+      placed = tt;
       view = refl;
-      leads = subst (λ (m : ℕ). backward_trials act v m (framed_cut o s c) ≡ Ok r) none read;
+      leads = (rs, subst (λ (m : ℕ). backward_trials act v m (framed_cut o s c) ≡ Ok r) none read);
       view_is = refl;
       events = refl;
       bounded = tt;
       counted = refl;
     }))
-walks_back act local still level v u (suc n) o s c r e f le rs rc read alone =
+walks_from act local still level v u (suc n) o s c r e f there le rs rc read alone =
     let d : Cut = cut_at_index n c in
     let w : Cut = framed_cut o s d in
     let at : length o.before + suc n ≡ suc (length o.before + n) = omega arith in
@@ -241,6 +188,12 @@ walks_back act local still level v u (suc n) o s c r e f le rs rc read alone =
     let some : 0 < length d.rest = omega (arith, le, length-drop n (whole c)) in
     let frames = cut_frames o s n c f in
     let here : backward_trials act v (suc (length o.before + n)) (framed_cut o s c) ≡ Ok r = subst (λ (m : ℕ). backward_trials act v m (framed_cut o s c) ≡ Ok r) at read in
-    let there : after_outcome (act w) (backward_trials act v (length o.before + n)) v w ≡ Ok r = ap (λ (z : Cut). after_outcome (act z) (backward_trials act v (length o.before + n)) v z) (sym (cut_framed o s n c low)) ∙ here in
+    let cut : after_outcome (act w) (backward_trials act v (length o.before + n)) v w ≡ Ok r = ap (λ (z : Cut). after_outcome (act z) (backward_trials act v (length o.before + n)) v z) (sym (cut_framed o s n c low)) ∙ here in
     elsewhere act level v u o s c n r e
-    (outcomes_walk act level v u n (walks_back act local still level v u n) o s d (act w) (act d) frames some (omega (arith, low, cut_whole n c)) rs rc (local o s d frames tt some) (still w) (still d) r e there alone)
+    (outcomes_walk act level v u n (walks_from act local still level v u n) o s d (act w) (act d) frames some (omega (arith, low, cut_whole n c)) rs rc (local o s d frames tt some) (still w) (still d) r e cut alone)
+
+-- a local rule that acts one for one, tried over a fragment from the right, in the text and alone, does alone what it does in the text, or
+-- binds the fragment to what is outside
+pub walks_back : (act : Action) → IsLocal AnyPositions act → ActsOneForOne act → (level : BufferClusterLevel) (v u : View) (o : Outside) (s : Inside) (c : Cut) (r e : Read) → IsFramed o s c → 0 < length (whole c) → IsTriedBack act v o s c r → IsReady c.max_ops c.lig_id
+    → backward_trials act u (length (whole c)) c ≡ Ok e → Walked AnyPositions (IsTriedBefore act v) level u o s c r e
+walks_back act local still level v u o s c r e f some t ready alone = walks_from act local still level v u (length (whole c)) o s c r e f some (omega arith) t.0 ready t.1 alone

@@ -22,11 +22,11 @@ use Rattle.buffer_parts.specs.Breaks.Sides.{AreBounded, AreCutAt}
 use Rattle.buffer_parts.proofs.BreakLemmas.Bound.{bound_is_unsafe}
 use Rattle.buffer_parts.proofs.BreakLemmas.Crossing.{ranges_cross}
 use Rattle.buffer_parts.proofs.BreakLemmas.Events.{unsafe_stays, safe_breaks_stay, lossless_in_turn}
-use Rattle.buffer_parts.proofs.BreakLemmas.Divided.{both_change_alone, first_changes_alone}
+use Rattle.buffer_parts.proofs.BreakLemmas.Divided.{both_change_alone, both_change_backward}
 use Rattle.buffer_parts.proofs.BreakLemmas.Concat.{same_numbers, same_any, concat_is_apart}
 use Rattle.buffer_parts.proofs.BreakLemmas.Concats.{same_trans, concats_are_apart}
 use Rattle.layout_laws.specs.Breaks.Binding.{BindsAt, BindsOutside, BindOutside}
-use Rattle.buffer_stages.specs.Lemmas.Shifts.{shift_none as all_shifted_none, shift_by_none as shifted_none, none_more as plus_none}
+use Rattle.buffer_stages.specs.Lemmas.Shifts.{shift_none as all_shifted_none}
 
 -- ---- one event
 
@@ -90,8 +90,6 @@ none_after n m (Tatweel from to) s b = b
 none_after n m Spread s b = b
 none_after n m Reset s b = b
 
--- ---- events of the first of two lists count from its begin
-
 -- ---- the event that binds, among others
 
 pub record AreSplit (left n right : ℕ) (es : List Event) : Type 0 where
@@ -144,22 +142,27 @@ bound_after_all asks level ps fs e ws c s h l bound =
           unsafe_stays asks level fs next c then_safe orders.1.1 then_kept (subst (λ (xs : List Origin). IsUnsafeAt c (origins_after_event asks level xs e)) (sym two.2) now)
     ])
 
--- events of the first of two lists bind it to the second
-pub first_binds : (asks : Asks) (level : BufferClusterLevel) (es : List Event) (os qs : List Origin) (c : ℕ) → HaveSafeBreaks asks level (os ++ qs) → IsOrderly asks level es (os ++ qs) → AreLossless es (length (os ++ qs)) → AreCutAt c os qs
-    → BindOutside 0 (length os) (length qs) es → IsUnsafeAt c (origins_after asks level es (os ++ qs))
-first_binds asks level es os qs c s h l cut binds =
-    let k = split_at_binding 0 (length os) (length qs) es binds in
-    let is : es ≡ k.inner ++ k.binding ∷ k.more = k.events ∙ ap (λ (xs : List Event). xs ++ k.binding ∷ k.more) (all_shifted_none k.inner) in
-    let h1 : IsOrderly asks level (k.inner ++ k.binding ∷ k.more) (os ++ qs) = subst (λ (xs : List Event). IsOrderly asks level xs (os ++ qs)) is h in
-    let l1 : AreLossless (k.inner ++ k.binding ∷ k.more) (length (os ++ qs)) = subst (λ (xs : List Event). AreLossless xs (length (os ++ qs))) is l in
+-- events of the first of two lists, after some of the second, bind it to the second
+pub first_binds : (asks : Asks) (level : BufferClusterLevel) (es fs : List Event) (os qs : List Origin) (c : ℕ) → HaveSafeBreaks asks level (os ++ qs) → IsOrderly asks level (map (shifted_event (length os)) fs ++ es) (os ++ qs) → AreLossless (map (shifted_event (length os)) fs ++ es) (length (os ++ qs))
+    → AreCutAt c os qs → AreBounded fs (length qs) → BindOutside 0 (length os) (count_after fs (length qs)) es → IsUnsafeAt c (origins_after asks level (map (shifted_event (length os)) fs ++ es) (os ++ qs))
+first_binds asks level es fs os qs c s h l cut bounded binds =
+    let right = count_after fs (length qs) in
+    let gs = map (shifted_event (length os)) fs in
+    let k = split_at_binding 0 (length os) right es binds in
+    let ps = gs ++ k.inner in
+    let is : gs ++ es ≡ ps ++ k.binding ∷ k.more = ap (λ (xs : List Event). gs ++ xs) (k.events ∙ ap (λ (xs : List Event). xs ++ k.binding ∷ k.more) (all_shifted_none k.inner)) ∙ sym (append_assoc gs k.inner (k.binding ∷ k.more)) in
+    let h1 : IsOrderly asks level (ps ++ k.binding ∷ k.more) (os ++ qs) = subst (λ (xs : List Event). IsOrderly asks level xs (os ++ qs)) is h in
+    let l1 : AreLossless (ps ++ k.binding ∷ k.more) (length (os ++ qs)) = subst (λ (xs : List Event). AreLossless xs (length (os ++ qs))) is l in
     let first = origins_after asks level k.inner os in
+    let second = origins_after asks level fs qs in
     let long : length first ≡ count_after k.inner (length os) = counts_follow asks level k.inner os in
-    let both = length-append first qs in
+    let more : length second ≡ right = counts_follow asks level fs qs in
+    let both = length-append first second in
     subst (λ (xs : List Event). IsUnsafeAt c (origins_after asks level xs (os ++ qs))) (sym is)
-    (bound_after_all asks level k.inner k.more k.binding (os ++ qs) c s h1 l1
-    (elim (first_changes_alone asks level k.inner os qs c s ((orderly_in_turn asks level k.inner (k.binding ∷ k.more) (os ++ qs)).0 h1).0 ((lossless_in_turn k.inner (k.binding ∷ k.more) (length (os ++ qs))).0 l1).0 k.bounded cut) [
+    (bound_after_all asks level ps k.more k.binding (os ++ qs) c s h1 l1
+    (elim (both_change_backward asks level k.inner fs os qs c s ((orderly_in_turn asks level ps (k.binding ∷ k.more) (os ++ qs)).0 h1).0 ((lossless_in_turn ps (k.binding ∷ k.more) (length (os ++ qs))).0 l1).0 k.bounded bounded cut) [
       | inl unsafe ↦ inl unsafe
-      | inr alone ↦ inr (first, qs, alone, kept_cut asks level k.inner [] os qs c cut, at_end (length first) (length (first ++ qs)) (count_after k.inner (length os)) (length qs) k.binding long both k.binds)
+      | inr alone ↦ inr (first, second, alone, kept_cut asks level k.inner fs os qs c cut, at_end (length first) (length (first ++ second)) (count_after k.inner (length os)) right k.binding long (both ∙ ap (λ (n : ℕ). length first + n) more) k.binds)
     ]))
   where
     at_end : (n all m right : ℕ) (e : Event) → n ≡ m → all ≡ n + right → BindsOutside 0 m right e → BindsAt n all e

@@ -1,27 +1,16 @@
 -- Lookups of positioning over a text: what they keep, and that they divide it.
-use Rattle.std.proofs.Common.{ℕ, zero, suc, ◌≡◌, ◌<◌, ◌+◌, inl, inr, Bool, true, false, nat_le, if◌then◌else◌, List, [], ◌∷◌, ◌++◌, Ok, Err, length, reverse, arith, refl, ap, sym, subst, ◌∙◌}
+use Rattle.std.proofs.Common.{ℕ, zero, suc, ◌≡◌, ◌+◌, inl, inr, Bool, true, false, nat_le, if◌then◌else◌, List, [], ◌∷◌, Ok, Err, length, refl, ap, sym, subst, ◌∙◌}
 use Rattle.buffer_common.specs.declared.direction.Direction.{Direction}
 use Rattle.buffer_glyphs.specs.declared.cause.ShapeCause.TheVariants.{TooLong}
-use Rattle.buffer_glyphs.specs.declared.level.BufferClusterLevel.{BufferClusterLevel}
 use Rattle.buffer_glyphs.specs.Items.{Item}
-use Rattle.buffer_glyphs.specs.Order.{IsOrdered}
-use Rattle.buffer_glyphs.specs.Origins.{Origin, Asks}
-use Rattle.buffer_glyphs.specs.Parts.{first_of}
-use Rattle.buffer_parts.specs.Counts.{count_after}
 use Rattle.buffer_parts.specs.Rules.{RuleKeepsParts}
 use Rattle.buffer_parts.specs.Stages.{KeepsParts}
 use Rattle.buffer_core.specs.Readings.{View, Read, Reading, Stage, BufferState, state_after, with_events, then_reading}
 use Rattle.buffer_stages.specs.Actions.{Cut, whole, view_at, uncut_with_positions, past_item, Outcome, Passes, Acts, Refuses, Action}
-use Rattle.buffer_parts.specs.Breaks.Unsafe.{HaveSafeBreaks}
-use Rattle.buffer_parts.specs.Breaks.Lossless.{AreLossless}
-use Rattle.buffer_parts.specs.Breaks.Concat.{SameButConcat, without_concats}
-use Rattle.buffer_parts.specs.Breaks.Sides.{AreBounded}
 use Rattle.buffer_parts.specs.Breaks.Fragments.{AreFragments}
 use Rattle.buffer_parts.specs.Breaks.Divisible.{IsSpared, IsBreakable, OnlySpends, LosesNoFlag, KeepsPositions}
-use Rattle.buffer_parts.specs.Breaks.Beside.{IsReadAlone, IsReadBeside}
-use Rattle.buffer_parts.proofs.BreakLemmas.Beside.{beside_stays_divided, safe_alike as safe_line}
-use Rattle.buffer_parts.proofs.BreakLemmas.Concat.{same_numbers, same_length}
-use Rattle.buffer_parts.proofs.BreakLemmas.Concats.{orderly_without, lossless_without}
+use Rattle.buffer_parts.specs.Breaks.Beside.{IsReadBeside}
+use Rattle.buffer_parts.proofs.BreakLemmas.Beside.{beside_stays_divided}
 use Rattle.buffer_parts.proofs.BreakLemmas.Division.{orderly_at, lossless_at, lossless_stages_keep_unsafe}
 use Rattle.layout_face.specs.declared.positioning.PositioningLookup.{PositioningLookup}
 use Rattle.layout_match.specs.Applied.{ApplyContext}
@@ -33,17 +22,17 @@ use Rattle.layout_laws.proofs.Lemmas.KeptRules.{by_parts, positioned_by_parts}
 use Rattle.layout_laws.proofs.Lemmas.Lookups.{tried_keeps}
 use Rattle.layout_laws.proofs.Lemmas.Positionings.{action_related}
 use Rattle.layout_laws.specs.Breaks.Local.{IsLocalOrIdle, IsSteady}
-use Rattle.layout_laws.proofs.BreakLemmas.PassWalks.{IsEnough}
-use Rattle.layout_laws.specs.Breaks.Positioned.{ArePlaced, AreFlagged, AreApart}
+use Rattle.layout_laws.specs.Breaks.Positioned.{ArePlaced, AreFlagged}
 use Rattle.layout_laws.specs.Breaks.Positionable.{ArePositionable, StaysPositionable, DividesPositions}
 use Rattle.layout_laws.specs.Breaks.PositionsInOrder.{PositioningsAreDivisible}
 use Rattle.layout_laws.proofs.BreakLemmas.Walks.{trials_spend}
-use Rattle.layout_laws.proofs.BreakLemmas.Passes.{count_without}
 use Rattle.layout_laws.proofs.BreakLemmas.Lossless.{LosesNone, AllLossless, trials_lossless}
 use Rattle.layout_laws.proofs.BreakLemmas.Spent.{trials_give}
 use Rattle.layout_laws.proofs.BreakLemmas.Moving.{CountStays, action_counts}
 use Rattle.layout_laws.proofs.BreakLemmas.Flagged.{pass_flags}
-use Rattle.layout_laws.proofs.BreakLemmas.PlacedLines.{IsPlacedLine, placed_line_reads}
+use Rattle.layout_laws.proofs.BreakLemmas.Ways.{its_positions}
+use Rattle.layout_laws.proofs.BreakLemmas.Standing.{earlier_first, turned_line, spared_at, turned_beside}
+use Rattle.layout_laws.proofs.BreakLemmas.PlacedLines.{placed_line_reads}
 use Rattle.layout_laws.proofs.BreakLemmas.Positionings.{positionings_lose_none, positionings_are_local, positionings_are_steady}
 use Rattle.layout_gpos.proofs.Lemmas.Left.{past_left as items_stay}
 
@@ -102,12 +91,6 @@ kept act p v r level e = tried_keeps act v (length v.items) (uncut_with_position
 loses_none : (act : Action) → IsPositioning act → LosesNoFlag (positioning_pass act)
 loses_none act p v r level e = let all : AllLossless (Ok r) = subst AllLossless e (trials_lossless act p.lossless v (length v.items) (uncut_with_positions v)) in all level (length v.items)
 
-enough_of : (v : View) (r : Read) (level other : BufferClusterLevel) → other ≡ level → IsSpared other v r → IsEnough level v.lig_id r
-enough_of v r level other e h = let now : IsSpared level v r = subst (λ (x : BufferClusterLevel). IsSpared x v r) e h in record { budget = now.budget; numbers = now.numbers }
-
-alone : (r : Read) (level : BufferClusterLevel) (n : ℕ) → AreBounded (without_concats (r.events level)) n → length r.view.positions ≡ length r.view.items → count_after (without_concats (r.events level)) n ≡ length r.view.items → 0 < length r.view.items → IsReadAlone level n r
-alone r level n bounded positions counted some = record { bounded = bounded; positions = positions; counted = sym (count_without (r.events level) n) ∙ counted; some = some }
-
 -- a text is read as its fragments, which can be positioned further, or it is unsafe to break there
 abbrev ReadsApart : Bool → ℕ → BufferState → BufferState → BufferState → Read → Read → Read → Type 0
 ReadsApart falls c whole earlier later r e l = StaysPositionable falls c (state_after r whole) (state_after e earlier) (state_after l later)
@@ -123,130 +106,34 @@ divided falls act p c whole earlier later r e l b f is_r beside q =
 passes_divide : (falls : Bool) (act : Action) → IsPositioning act → (c : ℕ) (whole earlier later : BufferState) (r e l : Read) → IsBreakable whole → AreFragments falls c whole earlier later → ArePositionable falls whole earlier later
     → positioning_pass act whole.view ≡ Ok r → positioning_pass act earlier.view ≡ Ok e → positioning_pass act later.view ≡ Ok l → IsSpared whole.level whole.view r → IsSpared earlier.level earlier.view e → IsSpared later.level later.view l → ReadsApart falls c whole earlier later r e l
 passes_divide false act p c whole earlier later r e l b f q is_r is_e is_l ar ae al =
-    let level = whole.level in
-    let line = earlier.origins ++ later.origins in
-    let early = f.early_whole in
-    let late = f.late_whole in
     let stays_e = pass_stays act p.items p.counts earlier.view e is_e in
     let stays_l = pass_stays act p.items p.counts later.view l is_l in
-    let is : IsPlacedLine act c whole earlier later r e l = record {
-      first_name = f.early_name;
-      second_name = f.late_name;
-      breaks = safe_line whole.asks level whole.origins line f.origins b.breaks;
-      origins = f.origins;
-      orderly = orderly_without whole.asks level (r.events level) whole.origins line f.origins (orderly_at (positioning_pass act) whole r (kept act p) is_r b);
-      lossless = subst (AreLossless (without_concats (r.events level))) (same_length whole.origins line f.origins) (lossless_without (r.events level) (length whole.origins) (lossless_at (positioning_pass act) whole r (loses_none act p) is_r b));
-      cut = inl (f.below, f.above);
-      items = f.items;
-      positions = f.positions;
-      first_names = f.names.early;
-      second_names = f.names.late;
-      apart = f.names.apart;
-      first_given = f.names.early_given;
-      second_given = f.names.late_given;
-      first_some = omega (arith, f.early_some, early.origins);
-      second_some = omega (arith, f.late_some, late.origins);
-      first_long = early.origins;
-      second_long = late.origins;
-      first_filled = early.positions;
-      second_filled = late.positions;
-      first_links = q.early_links;
-      second_links = q.late_links;
-      seam = q.apart;
-      text_read = is_r;
-      first_read = is_e;
-      second_read = is_l;
-      first_stays = stays_e.0;
-      text_enough = enough_of whole.view r level level refl ar;
-      first_enough = enough_of earlier.view e level earlier.level f.early_of.level ae;
-      second_enough = enough_of later.view l level later.level f.late_of.level al;
-    } in
-    elim (placed_line_reads act p.local p.steady c whole earlier later r e l is) [
+    let is = earlier_first false its_positions (λ t v u w same. same) (positioning_pass act) (kept act p) (loses_none act p) c whole r b is_r earlier later f in
+    elim (placed_line_reads act p.local p.steady c whole earlier later r e l is (record { first_links = q.early_links; second_links = q.late_links; seam = q.apart }) is_r is_e is_l stays_e.0 stays_l.0 ar (spared_at earlier.view e whole.level earlier.level f.early_of.level ae) (spared_at later.view l whole.level later.level f.late_of.level al)) [
       | inl unsafe ↦ inl unsafe
-      | inr read ↦ divided false act p c whole earlier later r e l b f is_r
-          (record {
-            early_name = read.first_name;
-            late_name = read.second_name;
-            names = record { early = read.first_names; late = read.second_names; apart = read.apart; early_given = read.first_given; late_given = read.second_given };
-            items = read.items;
-            positions = read.positions;
-            events = read.events;
-            early_direction = read.first_direction ∙ f.early_of.direction ∙ sym read.direction;
-            late_direction = read.second_direction ∙ f.late_of.direction ∙ sym read.direction;
-            early = alone e level (length earlier.origins) read.first_bounded read.first_filled read.first_counted read.first_some;
-            late = alone l level (length later.origins) read.second_bounded read.second_filled read.second_counted read.second_some;
-          })
-          (record {
-            early_links = read.first_links;
-            late_links = read.second_links;
-            apart = subst (λ (xs : List Item). AreApart (first_of (reverse xs)) (first_of l.view.items)) (sym stays_e.0) (subst (λ (xs : List Item). AreApart (first_of (reverse earlier.view.items)) (first_of xs)) (sym stays_l.0) q.apart);
-            flagged = p.flags whole.view r is_r q.flagged;
-            early_flagged = p.flags earlier.view e is_e q.early_flagged;
-            late_flagged = p.flags later.view l is_l q.late_flagged;
-          })
+      | inr read ↦ divided false act p c whole earlier later r e l b f is_r read.0 (record {
+        early_links = read.1.first_links;
+        late_links = read.1.second_links;
+        apart = read.1.seam;
+        flagged = p.flags whole.view r is_r q.flagged;
+        early_flagged = p.flags earlier.view e is_e q.early_flagged;
+        late_flagged = p.flags later.view l is_l q.late_flagged;
+      })
     ]
 passes_divide true act p c whole earlier later r e l b f q is_r is_e is_l ar ae al =
-    let level = whole.level in
-    let line = later.origins ++ earlier.origins in
-    let early = f.early_whole in
-    let late = f.late_whole in
     let stays_e = pass_stays act p.items p.counts earlier.view e is_e in
     let stays_l = pass_stays act p.items p.counts later.view l is_l in
-    let is : IsPlacedLine act c whole later earlier r l e = record {
-      first_name = f.late_name;
-      second_name = f.early_name;
-      breaks = safe_line whole.asks level whole.origins line f.origins b.breaks;
-      origins = f.origins;
-      orderly = orderly_without whole.asks level (r.events level) whole.origins line f.origins (orderly_at (positioning_pass act) whole r (kept act p) is_r b);
-      lossless = subst (AreLossless (without_concats (r.events level))) (same_length whole.origins line f.origins) (lossless_without (r.events level) (length whole.origins) (lossless_at (positioning_pass act) whole r (loses_none act p) is_r b));
-      cut = inr (f.above, f.below);
-      items = f.items;
-      positions = f.positions;
-      first_names = f.names.late;
-      second_names = f.names.early;
-      apart = λ m n mle nle same. let both = f.names.apart n m nle mle (sym same) in (both.1, both.0);
-      first_given = f.names.late_given;
-      second_given = f.names.early_given;
-      first_some = omega (arith, f.late_some, late.origins);
-      second_some = omega (arith, f.early_some, early.origins);
-      first_long = late.origins;
-      second_long = early.origins;
-      first_filled = late.positions;
-      second_filled = early.positions;
-      first_links = q.late_links;
-      second_links = q.early_links;
-      seam = q.apart;
-      text_read = is_r;
-      first_read = is_l;
-      second_read = is_e;
-      first_stays = stays_l.0;
-      text_enough = enough_of whole.view r level level refl ar;
-      first_enough = enough_of later.view l level later.level f.late_of.level al;
-      second_enough = enough_of earlier.view e level earlier.level f.early_of.level ae;
-    } in
-    elim (placed_line_reads act p.local p.steady c whole later earlier r l e is) [
+    let is = turned_line false its_positions c whole later earlier (r.events whole.level) (earlier_first true its_positions (λ t v u w same. same) (positioning_pass act) (kept act p) (loses_none act p) c whole r b is_r earlier later f) in
+    elim (placed_line_reads act p.local p.steady c whole later earlier r l e is (record { first_links = q.late_links; second_links = q.early_links; seam = q.apart }) is_r is_l is_e stays_l.0 stays_e.0 ar (spared_at later.view l whole.level later.level f.late_of.level al) (spared_at earlier.view e whole.level earlier.level f.early_of.level ae)) [
       | inl unsafe ↦ inl unsafe
-      | inr read ↦ divided true act p c whole earlier later r e l b f is_r
-          (record {
-            early_name = read.second_name;
-            late_name = read.first_name;
-            names = record { early = read.second_names; late = read.first_names; apart = λ m n mle nle same. let both = read.apart n m nle mle (sym same) in (both.1, both.0); early_given = read.second_given; late_given = read.first_given };
-            items = read.items;
-            positions = read.positions;
-            events = read.events;
-            early_direction = read.second_direction ∙ f.early_of.direction ∙ sym read.direction;
-            late_direction = read.first_direction ∙ f.late_of.direction ∙ sym read.direction;
-            early = alone e level (length earlier.origins) read.second_bounded read.second_filled read.second_counted read.second_some;
-            late = alone l level (length later.origins) read.first_bounded read.first_filled read.first_counted read.first_some;
-          })
-          (record {
-            early_links = read.second_links;
-            late_links = read.first_links;
-            apart = subst (λ (xs : List Item). AreApart (first_of (reverse xs)) (first_of e.view.items)) (sym stays_l.0) (subst (λ (xs : List Item). AreApart (first_of (reverse later.view.items)) (first_of xs)) (sym stays_e.0) q.apart);
-            flagged = p.flags whole.view r is_r q.flagged;
-            early_flagged = p.flags earlier.view e is_e q.early_flagged;
-            late_flagged = p.flags later.view l is_l q.late_flagged;
-          })
+      | inr read ↦ divided true act p c whole earlier later r e l b f is_r (turned_beside false whole.level (length later.origins) (length earlier.origins) r l e read.0) (record {
+        early_links = read.1.second_links;
+        late_links = read.1.first_links;
+        apart = read.1.seam;
+        flagged = p.flags whole.view r is_r q.flagged;
+        early_flagged = p.flags earlier.view e is_e q.early_flagged;
+        late_flagged = p.flags later.view l is_l q.late_flagged;
+      })
     ]
 
 -- ---- lookups

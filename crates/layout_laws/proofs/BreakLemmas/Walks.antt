@@ -1,5 +1,5 @@
 -- A local rule over a fragment.
-use Rattle.std.proofs.Common.{ℕ, zero, suc, ◌≡◌, ◌≤◌, ◌<◌, ◌+◌, ◌⊎◌, inl, inr, Bool, true, false, nat_le, if◌then◌else◌, List, [], ◌∷◌, ◌++◌, Ok, Err, length, map, arith, refl, ap, sym, subst, ◌∙◌, append_assoc}
+use Rattle.std.proofs.Common.{ℕ, zero, suc, ◌≡◌, ◌≤◌, ◌<◌, ◌+◌, inl, inr, Bool, true, false, nat_le, if◌then◌else◌, List, [], ◌∷◌, ◌++◌, Ok, Err, length, map, arith, refl, ap, sym, subst, ◌∙◌, append_assoc}
 use Rattle.std.proofs.lemmas.List.{map-append, length-append}
 use Rattle.buffer_glyphs.specs.declared.level.BufferClusterLevel.{BufferClusterLevel}
 use Rattle.buffer_glyphs.specs.declared.cause.ShapeCause.TheVariants.{TooLong}
@@ -17,8 +17,8 @@ use Rattle.buffer_parts.specs.Breaks.Fragments.{with_ligature_renamed}
 use Rattle.layout_match.specs.Trying.{after_outcome, outcome_past_item, trial_at, trials}
 use Rattle.layout_laws.specs.Breaks.Frames.{Outside, Inside, named_items, framed_cut, IsFramed}
 use Rattle.layout_laws.specs.Breaks.Binding.{BindOutside}
-use Rattle.layout_laws.specs.Breaks.Local.{Placing, IsMadeInside, IsBeside, IsIdle, IsBesideOrIdle, IsLocalOrIdle, IsStep, Steps, IsSteady, IsOfWhole}
-use Rattle.layout_laws.proofs.BreakLemmas.PassWalks.{IsEnough, IsWalked, WalksAreLocal}
+use Rattle.layout_laws.specs.Breaks.Local.{Placing, Binds, IsMadeInside, IsBeside, IsIdle, IsBesideOrIdle, IsLocalOrIdle, IsStep, Steps, IsSteady, IsOfWhole}
+use Rattle.layout_laws.proofs.BreakLemmas.PassWalks.{Reads, Walked, IsEnough, IsTriedAfter, WalksAreLocal}
 use Rattle.layout_laws.proofs.BreakLemmas.Frames.{front_joined, given_both, still_framed, same_extended, extended_twice}
 use Rattle.layout_laws.proofs.BreakLemmas.Outcomes.{refused_beside, limited_beside, binds_beside}
 use Rattle.buffer_parts.proofs.BreakLemmas.Division.{merges_both, without_both}
@@ -166,12 +166,12 @@ trials_spend act steady v (suc n) c r e l = by_rest c.rest refl (trials_spend ac
 
 -- ---- a step of the walk
 
-abbrev Outcomes : Placing → Action → BufferClusterLevel → View → View → ℕ → ℕ → Outside → Inside → Cut → Read → Read → Type 0
-Outcomes P act level v u steps n o s c r e = BindOutside (length o.before) (length (whole c)) (length o.after) (without_concats (r.events level)) ⊎ IsWalked P act level v u steps n o s c r e
+abbrev Walks : Placing → Action → BufferClusterLevel → View → View → Outside → Inside → Cut → Read → Read → Type 0
+Walks P act level v u o s c r e = Walked P (IsTriedAfter act level v) level u o s c r e
 
 abbrev IsWalkable : Placing → Action → BufferClusterLevel → View → View → ℕ → Type 0
-IsWalkable P act level v u n = (steps : ℕ) (o : Outside) (s : Inside) (c : Cut) (r e : Read) → IsFramed o s c → P o c → 0 < length (whole c) → length c.rest ≤ n → n ≤ steps
-    → trials act v steps (framed_cut o s c) ≡ Ok r → trials act u n c ≡ Ok e → IsEnough level s.lig_id r → IsEnough level c.lig_id e → Outcomes P act level v u steps n o s c r e
+IsWalkable P act level v u n = (steps : ℕ) (o : Outside) (s : Inside) (c : Cut) (r e : Read) → IsFramed o s c → P o c → 0 < length (whole c) → length c.rest ≤ n → n + length o.after ≤ steps
+    → trials act v steps (framed_cut o s c) ≡ Ok r → trials act u n c ≡ Ok e → IsEnough level s.lig_id r → IsEnough level c.lig_id e → Walks P act level v u o s c r e
 
 -- the numbers that suffice for all events suffice for the first
 enough_first : (level : BufferClusterLevel) (last : ℕ) (es : List Event) (v : View) (r : Read) → IsEnough level last (then_read (with_events es v) r) → last + merges (without_concats es) + merges (without_concats (r.events level)) ≤ 7
@@ -179,16 +179,22 @@ enough_first level last es v r h =
     let both : merges (without_concats (es ++ r.events level)) ≡ merges (without_concats es) + merges (without_concats (r.events level)) = ap merges (without_both es (r.events level)) ∙ merges_both (without_concats es) (without_concats (r.events level)) in
     omega (arith, both, h.numbers)
 
-inside_walked : (P : Placing) (act : Action) (level : BufferClusterLevel) (v u : View) (steps n : ℕ) (o : Outside) (s : Inside) (c w1 d : Cut) (es fs : List Event) (r e : Read) → (m : IsMadeInside P o s c w1 d es fs) → count_after (without_concats fs) (length (whole c)) ≡ length (whole d)
-    → Outcomes P act level v u steps n o m.inside d r e → Outcomes P act level v u (suc steps) (suc n) o s c (then_read (with_events es (view_at v w1)) r) (then_read (with_events fs (view_at u d)) e)
-inside_walked P act level v u steps n o s c w1 d es fs r e m counted (inl binds) =
+-- what binds does so with more events after it
+pub bound_first : (level : BufferClusterLevel) (o : Outside) (c : Cut) (es : List Event) (v : View) (r : Read) → Binds o c es → Binds o c ((then_read (with_events es v) r).events level)
+bound_first level o c es v r binds =
+    subst (BindOutside (length o.before) (length (whole c)) (length o.after)) (sym (without_both es (r.events level))) (binds_more (length o.before) (length (whole c)) (length o.after) (without_concats es) (without_concats (r.events level)) binds)
+
+-- a rule acted inside, and was then tried on
+pub inside_walked : (P : Placing) (Leads : Reads) (level : BufferClusterLevel) (v u : View) (o : Outside) (s : Inside) (c w d : Cut) (es fs : List Event) (r e : Read) → (m : IsMadeInside P o s c w d es fs) → count_after (without_concats fs) (length (whole c)) ≡ length (whole d)
+    → Walked P Leads level u o m.inside d r e → Walked P Leads level u o s c (then_read (with_events es (view_at v w)) r) (then_read (with_events fs (view_at u d)) e)
+inside_walked P Leads level v u o s c w d es fs r e m counted (inl binds) =
     let left = length o.before in
     let size = length (whole c) in
     let right = length o.after in
     let gs = without_concats (r.events level) in
     let k : BindOutside left (count_after (without_concats fs) size) right gs = subst (λ (i : ℕ). BindOutside left i right gs) (sym counted) binds in
     inl (subst (BindOutside left size right) (sym (without_both es (r.events level) ∙ ap (λ (xs : List Event). xs ++ gs) m.events)) (binds_after left size right (without_concats fs) gs m.bounded k))
-inside_walked P act level v u steps n o s c w1 d es fs r e m counted (inr walk) =
+inside_walked P Leads level v u o s c w d es fs r e m counted (inr walk) =
     let size = length (whole c) in
     let g = shifted_event (length o.before) in
     let ours = without_both fs (e.events level) in
@@ -196,12 +202,10 @@ inside_walked P act level v u steps n o s c w1 d es fs r e m counted (inr walk) 
     inr (record {
       end = walk.end;
       inside = walk.inside;
-      left = walk.left;
       last = walk.last;
-      done = walk.done;
       frames = walk.frames;
-      some = walk.some;
       extended = extended_twice s m.inside walk.inside c d walk.end m.extended walk.extended;
+      some = walk.some;
       placed = walk.placed;
       view = walk.view;
       leads = walk.leads;
@@ -211,15 +215,13 @@ inside_walked P act level v u steps n o s c w1 d es fs r e m counted (inr walk) 
           ∙ ap (λ (xs : List Event). xs ++ without_concats (walk.last.events level)) (sym (ap (map g) ours ∙ map-append g (without_concats fs) (without_concats (e.events level))));
       bounded = subst (λ (xs : List Event). AreBounded xs size) (sym ours) (bounded_both (without_concats fs) (without_concats (e.events level)) size m.bounded (subst (AreBounded (without_concats (e.events level))) (sym counted) walk.bounded));
       counted = ap (λ (xs : List Event). count_after xs size) ours ∙ more ∙ ap (count_after (without_concats (e.events level))) counted ∙ walk.counted;
-      enough = walk.enough;
-      fuel = omega (arith, walk.fuel);
     })
 
-acted_walks : (P : Placing) (act : Action) → IsSteady act → (level : BufferClusterLevel) (v u : View) (steps n : ℕ) → n ≤ steps → IsWalkable P act level v u n → (o : Outside) (s : Inside) (c w1 d : Cut) (es fs : List Event) → length c.rest ≤ suc n
+acted_walks : (P : Placing) (act : Action) → IsSteady act → (level : BufferClusterLevel) (v u : View) (steps n : ℕ) (o : Outside) → n + length o.after ≤ steps → IsWalkable P act level v u n → (s : Inside) (c w1 d : Cut) (es fs : List Event) → length c.rest ≤ suc n
     → IsBeside P o s c (Acts w1 es) (Acts d fs) → IsStep (framed_cut o s c) w1 es → IsStep c d fs → (r e : Read) → trials act v steps w1 ≡ Ok r → trials act u n d ≡ Ok e
     → IsEnough level s.lig_id (then_read (with_events es (view_at v w1)) r) → IsEnough level c.lig_id (then_read (with_events fs (view_at u d)) e)
-    → Outcomes P act level v u (suc steps) (suc n) o s c (then_read (with_events es (view_at v w1)) r) (then_read (with_events fs (view_at u d)) e)
-acted_walks P act steady level v u steps n le walk o s c w1 d es fs long h step half r e rs is ar ae =
+    → Walks P act level v u o s c (then_read (with_events es (view_at v w1)) r) (then_read (with_events fs (view_at u d)) e)
+acted_walks P act steady level v u steps n o le walk s c w1 d es fs long h step half r e rs is ar ae =
     let theirs = enough_first level s.lig_id es (view_at v w1) r ar in
     let ours = enough_first level c.lig_id fs (view_at u d) e ae in
     let few_theirs : s.lig_id + merges (without_concats es) ≤ 7 = omega (arith, theirs) in
@@ -227,81 +229,77 @@ acted_walks P act steady level v u steps n le walk o s c w1 d es fs long h step 
     let up_theirs = step.gives few_theirs in
     let up_ours = half.gives few_ours in
     elim (h (trials_spend act steady v steps w1 r rs ar.budget, few_theirs) (trials_spend act steady u n d e is ae.budget, few_ours)) [
-      | inl binds ↦ inl (subst (BindOutside (length o.before) (length (whole c)) (length o.after)) (sym (without_both es (r.events level))) (binds_more (length o.before) (length (whole c)) (length o.after) (without_concats es) (without_concats (r.events level)) binds))
+      | inl binds ↦ inl (bound_first level o c es (view_at v w1) r binds)
       | inr made ↦
           let number : w1.lig_id ≡ made.inside.lig_id = ap (λ (z : Cut). z.lig_id) made.cut_is in
-          inside_walked P act level v u steps n o s c w1 d es fs r e made half.counted
+          inside_walked P (IsTriedAfter act level v) level v u o s c w1 d es fs r e made half.counted
           (walk steps o made.inside d r e made.frames made.placed made.some (omega (arith, long, half.fewer)) le (ap (λ (z : Cut). trials act v steps z) (sym made.cut_is) ∙ rs) is
           (record { budget = ar.budget; numbers = omega (arith, theirs, up_theirs, number) }) (record { budget = ae.budget; numbers = omega (arith, ours, up_ours) }))
     ]
 
 -- the readings of two outcomes, none of which passes
-outcomes_walk : (P : Placing) (act : Action) → IsSteady act → (level : BufferClusterLevel) (v u : View) (steps n : ℕ) → n ≤ steps → IsWalkable P act level v u n → (o : Outside) (s : Inside) (c : Cut) (q p : Outcome) → length c.rest ≤ suc n
+outcomes_walk : (P : Placing) (act : Action) → IsSteady act → (level : BufferClusterLevel) (v u : View) (steps n : ℕ) (o : Outside) → n + length o.after ≤ steps → IsWalkable P act level v u n → (s : Inside) (c : Cut) (q p : Outcome) → length c.rest ≤ suc n
     → Never q → Never p → IsBeside P o s c q p → Steps (framed_cut o s c) q → Steps c p → (r e : Read) → after_outcome q (trials act v steps) v (framed_cut o s c) ≡ Ok r → after_outcome p (trials act u n) u c ≡ Ok e
-    → IsEnough level s.lig_id r → IsEnough level c.lig_id e → Outcomes P act level v u (suc steps) (suc n) o s c r e
-outcomes_walk P act steady level v u steps n le walk o s c (Passes es) p long a b h step half r e rs is ar ae = absurd a
-outcomes_walk P act steady level v u steps n le walk o s c (Refuses x) p long a b h step half r e rs is ar ae = cc
-outcomes_walk P act steady level v u steps n le walk o s c (Acts w1 es) (Passes fs) long a b h step half r e rs is ar ae = absurd b
-outcomes_walk P act steady level v u steps n le walk o s c (Acts w1 es) (Refuses y) long a b h step half r e rs is ar ae = cc
-outcomes_walk P act steady level v u steps n le walk o s c (Acts w1 es) (Acts d fs) long a b h step half r e rs is ar ae =
+    → IsEnough level s.lig_id r → IsEnough level c.lig_id e → Walks P act level v u o s c r e
+outcomes_walk P act steady level v u steps n o le walk s c (Passes es) p long a b h step half r e rs is ar ae = absurd a
+outcomes_walk P act steady level v u steps n o le walk s c (Refuses x) p long a b h step half r e rs is ar ae = cc
+outcomes_walk P act steady level v u steps n o le walk s c (Acts w1 es) (Passes fs) long a b h step half r e rs is ar ae = absurd b
+outcomes_walk P act steady level v u steps n o le walk s c (Acts w1 es) (Refuses y) long a b h step half r e rs is ar ae = cc
+outcomes_walk P act steady level v u steps n o le walk s c (Acts w1 es) (Acts d fs) long a b h step half r e rs is ar ae =
     let theirs = then_parts (with_events es (view_at v w1)) (trials act v steps w1) r rs in
     let ours = then_parts (with_events fs (view_at u d)) (trials act u n d) e is in
-    subst (λ (x : Read). Outcomes P act level v u (suc steps) (suc n) o s c x e) theirs.both
-    (subst (λ (y : Read). Outcomes P act level v u (suc steps) (suc n) o s c (then_read (with_events es (view_at v w1)) theirs.rest) y) ours.both
-    (acted_walks P act steady level v u steps n le walk o s c w1 d es fs long h step half theirs.rest ours.rest theirs.rest_is ours.rest_is
+    subst (λ (x : Read). Walks P act level v u o s c x e) theirs.both
+    (subst (λ (y : Read). Walks P act level v u o s c (then_read (with_events es (view_at v w1)) theirs.rest) y) ours.both
+    (acted_walks P act steady level v u steps n o le walk s c w1 d es fs long h step half theirs.rest ours.rest theirs.rest_is ours.rest_is
     (subst (IsEnough level s.lig_id) (sym theirs.both) ar) (subst (IsEnough level c.lig_id) (sym ours.both) ae)))
 
-item_walks : (P : Placing) (act : Action) → IsOfWhole P → IsLocalOrIdle P act → IsSteady act → (level : BufferClusterLevel) (v u : View) (steps n : ℕ) → n ≤ steps → IsWalkable P act level v u n → (o : Outside) (s : Inside) (c : Cut) (x : Item) (xs : List Item)
+item_walks : (P : Placing) (act : Action) → IsOfWhole P → IsLocalOrIdle P act → IsSteady act → (level : BufferClusterLevel) (v u : View) (steps n : ℕ) (o : Outside) → n + length o.after ≤ steps → IsWalkable P act level v u n → (s : Inside) (c : Cut) (x : Item) (xs : List Item)
     → IsFramed o s (record c { rest = x ∷ xs }) → P o (record c { rest = x ∷ xs }) → length {A = Item} (x ∷ xs) ≤ suc n → (r e : Read) → trials act v (suc steps) (framed_cut o s (record c { rest = x ∷ xs })) ≡ Ok r → trials act u (suc n) (record c { rest = x ∷ xs }) ≡ Ok e
-    → IsEnough level s.lig_id r → IsEnough level c.lig_id e → Outcomes P act level v u (suc steps) (suc n) o s (record c { rest = x ∷ xs }) r e
-item_walks P act over local steady level v u steps n le walk o s c x xs f k long r e rs is ar ae =
+    → IsEnough level s.lig_id r → IsEnough level c.lig_id e → Walks P act level v u o s (record c { rest = x ∷ xs }) r e
+item_walks P act over local steady level v u steps n o le walk s c x xs f k long r e rs is ar ae =
     let d : Cut = record c { rest = x ∷ xs } in
     let w : Cut = framed_cut o s d in
     let q = act w in
     let p = act d in
-    outcomes_walk P act steady level v u steps n le walk o s d (outcome_past_item q w) (outcome_past_item p d) long (never_passes q w) (never_passes p d) (past_either P over o s c x xs q p f k (local o s d f k (omega arith)))
+    outcomes_walk P act steady level v u steps n o le walk s d (outcome_past_item q w) (outcome_past_item p d) long (never_passes q w) (never_passes p d) (past_either P over o s c x xs q p f k (local o s d f k (omega arith)))
     (steps_past w (with_ligature_renamed s.name x) (named_items s xs ++ o.after) q (steady w (omega arith))) (steps_past c x xs p (steady d (omega arith))) r e rs is ar ae
 
-ended_walks : (P : Placing) (act : Action) (level : BufferClusterLevel) (v u : View) (steps n : ℕ) (o : Outside) (s : Inside) (c : Cut) (r e : Read) → IsFramed o s c → P o c → 0 < length (whole c) → c.rest ≡ [] → trials act v steps (framed_cut o s c) ≡ Ok r → trials act u n c ≡ Ok e → IsEnough level s.lig_id r
-    → Outcomes P act level v u steps n o s c r e
-ended_walks P act level v u steps n o s c r e f k some none rs is ar =
-    subst (λ (y : Read). Outcomes P act level v u steps n o s c r y) (read_same (with_events [] (view_at u c)) e (sym (trials_end act u n c none) ∙ is)) (inr (record {
+ended_walks : (P : Placing) (act : Action) (level : BufferClusterLevel) (v u : View) (steps n : ℕ) (o : Outside) (s : Inside) (c : Cut) (r e : Read) → IsFramed o s c → P o c → 0 < length (whole c) → c.rest ≡ [] → length o.after ≤ steps → trials act v steps (framed_cut o s c) ≡ Ok r → trials act u n c ≡ Ok e → IsEnough level s.lig_id r
+    → Walks P act level v u o s c r e
+ended_walks P act level v u steps n o s c r e f k some none le rs is ar =
+    subst (λ (y : Read). Walks P act level v u o s c r y) (read_same (with_events [] (view_at u c)) e (sym (trials_end act u n c none) ∙ is)) (inr (record {
       end = c;
       inside = s;
-      left = steps;
       last = r;
-      done = none;
       frames = f;
       extended = same_extended s c c refl;
       some = some;
       placed = k;
       view = refl;
-      leads = rs;
+      leads = (none, record { steps = steps; many = omega (arith, le, ap (λ (xs : List Item). length xs) none); read = rs; enough = ar });
       view_is = refl;
       events = refl;
       bounded = tt;
       counted = refl;
-      enough = ar;
-      fuel = omega arith;
     }))
 
 rest_walks : (P : Placing) (act : Action) → IsOfWhole P → IsLocalOrIdle P act → IsSteady act → (level : BufferClusterLevel) (v u : View) (n : ℕ) → IsWalkable P act level v u n → (steps : ℕ) (o : Outside) (s : Inside) (c : Cut) (r e : Read) (ys : List Item) → c.rest ≡ ys → IsFramed o s c → P o c → 0 < length (whole c) → length c.rest ≤ suc n
-    → suc n ≤ steps → trials act v steps (framed_cut o s c) ≡ Ok r → trials act u (suc n) c ≡ Ok e → IsEnough level s.lig_id r → IsEnough level c.lig_id e → Outcomes P act level v u steps (suc n) o s c r e
-rest_walks P act over local steady level v u n walk steps o s c r e [] g f k some long le rs is ar ae = ended_walks P act level v u steps (suc n) o s c r e f k some g rs is ar
+    → suc n + length o.after ≤ steps → trials act v steps (framed_cut o s c) ≡ Ok r → trials act u (suc n) c ≡ Ok e → IsEnough level s.lig_id r → IsEnough level c.lig_id e → Walks P act level v u o s c r e
+rest_walks P act over local steady level v u n walk steps o s c r e [] g f k some long le rs is ar ae = ended_walks P act level v u steps (suc n) o s c r e f k some g (omega (arith, le)) rs is ar
 rest_walks P act over local steady level v u n walk zero o s c r e (x ∷ xs) g f k some long le rs is ar ae = absurd (omega (arith, le))
 rest_walks P act over local steady level v u n walk (suc steps) o s c r e (x ∷ xs) g f k some long le rs is ar ae =
-    let Q : Cut → Type 0 = λ d. IsFramed o s d → P o d → length d.rest ≤ suc n → trials act v (suc steps) (framed_cut o s d) ≡ Ok r → trials act u (suc n) d ≡ Ok e → IsEnough level d.lig_id e → Outcomes P act level v u (suc steps) (suc n) o s d r e in
+    let Q : Cut → Type 0 = λ d. IsFramed o s d → P o d → length d.rest ≤ suc n → trials act v (suc steps) (framed_cut o s d) ≡ Ok r → trials act u (suc n) d ≡ Ok e → IsEnough level d.lig_id e → Walks P act level v u o s d r e in
     subst Q (ap (λ (zs : List Item). record c { rest = zs }) (sym g))
-    (λ f k long rs is ae. item_walks P act over local steady level v u steps n (omega (arith, le)) walk o s c x xs f k long r e rs is ar ae) f k long rs is ae
+    (λ f k long rs is ae. item_walks P act over local steady level v u steps n o (omega (arith, le)) walk s c x xs f k long r e rs is ar ae) f k long rs is ae
 
 walks_from : (P : Placing) (act : Action) → IsOfWhole P → IsLocalOrIdle P act → IsSteady act → (level : BufferClusterLevel) (v u : View) (n : ℕ) → IsWalkable P act level v u n
 walks_from P act over local steady level v u zero steps o s c r e f k some long le rs is ar ae = by_rest c.rest refl
   where
-    by_rest : (ys : List Item) → c.rest ≡ ys → Outcomes P act level v u steps zero o s c r e
-    by_rest [] g = ended_walks P act level v u steps zero o s c r e f k some g rs is ar
+    by_rest : (ys : List Item) → c.rest ≡ ys → Walks P act level v u o s c r e
+    by_rest [] g = ended_walks P act level v u steps zero o s c r e f k some g (omega (arith, le)) rs is ar
     by_rest (x ∷ xs) g = let more : length {A = Item} (x ∷ xs) ≤ 0 = subst (λ (ys : List Item). length ys ≤ 0) g long in absurd (omega (arith, more))
 walks_from P act over local steady level v u (suc n) steps o s c r e f k some long le rs is ar ae =
     rest_walks P act over local steady level v u n (walks_from P act over local steady level v u n) steps o s c r e c.rest refl f k some long le rs is ar ae
 
 pub walks_are_local : WalksAreLocal
-walks_are_local P act over local steady level v u steps n o s c r e f k some long le rs is ar ae = walks_from P act over local steady level v u n steps o s c r e f k some long le rs is ar ae
+walks_are_local P act over local steady level v u o s c r e f k some t is ae = walks_from P act over local steady level v u (length c.rest) t.steps o s c r e f k some (omega arith) t.many t.read is t.enough ae
