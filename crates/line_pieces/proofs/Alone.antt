@@ -23,14 +23,16 @@ use Rattle.kuspveli.specs.buffer_parts.Breaks.Unsafe.{has_flagged_of, is_flagged
 use Rattle.kuspveli.specs.buffer_unicode_tables.Lawful.{AsciiHasNoMarks}
 use Rattle.kuspveli.specs.shape_laws.Breaks.InLine.{MayBeCutAt, glyph_numbers}
 use Rattle.kuspveli.specs.shape_laws.Breaks.SafeTexts.{SafeBreaks}
-use Rattle.kuspveli.specs.shape_pipeline.Laws.{TextsKeepNumbers, TextsReadAlike}
+use Rattle.kuspveli.specs.shape_pipeline.Laws.{AreAlike, TextsKeepNumbers, TextsReadAlike}
+use Rattle.kuspveli.specs.shape_pipeline.ReadingLaws.{have_no_ranges}
 use Rattle.kuspveli.specs.shape_pipeline.Shaped.{text_reading}
 use Rattle.kuspveli.specs.shaping_buffer.buffer_core.Readings.{BufferState, Follows, Reading, View}
 use Rattle.kuspveli.specs.shaping_buffer.buffer_core.Sides.{Sides, all_glyphs, state_of, view_of}
+use Rattle.line_pieces.specs.declared.lines.GlyphRange.{GlyphRange}
 use Rattle.line_pieces.specs.declared.lines.Line.{Line}
-use Rattle.line_pieces.specs.Alone.{IsCutAt, IsFrom, IsUpTo, OwnLinesAreShapedAlone, OwnLinesLookAlike, Setup, ShapedText, shaping_of}
+use Rattle.line_pieces.specs.Alone.{HasClustersOf, HasGlyphsOf, IsCutAt, IsFrom, IsUpTo, OwnLinesAreShapedAlone, OwnLinesLookAlike, Setup, ShapedText, shaping_of}
 use Rattle.line_pieces.specs.Laws.{is_flagged_at}
-use Rattle.line_pieces.specs.Lines.{AreGlyphsOf, IsLine, byte_range, is_safe_at, paragraph_by}
+use Rattle.line_pieces.specs.Lines.{AreGlyphsOf, HasExactly, IsInLine, IsLine, byte_range, is_safe_at, paragraph_by}
 use Rattle.line_pieces.specs.Steps.{text_steps}
 use Rattle.line_pieces.proofs.Rests.{IsShownCut, line_range, rest_may, rest_order}
 use Rattle.line_pieces.proofs.Shown.{flags_show_safe_breaks}
@@ -205,29 +207,32 @@ joined_within : (from to : ℕ) (ls : List Line) → AreJoined from to (map byte
 joined_within from to [] joined = All-nil (IsInText to)
 joined_within from to (l ∷ ls) joined = All-cons (IsInText to) l ls (joined.1, joined_rises l.end to ls joined.2) (joined_within l.end to ls joined.2)
 
+-- a text that is cut out of another one between two safe breaks has its glyphs there
+pub own_range : SafeBreaks → TextsKeepNumbers → (s : Setup) (d : Direction) (end start stop : ℕ) (whole rest line : ShapedText s) (r : GlyphRange) → AsciiHasNoMarks → IsInLine d whole.result → start < stop → stop ≤ end
+    → is_safe_at (text_steps d whole.result) end start ≡ true → is_safe_at (text_steps d whole.result) end stop ≡ true → HasExactly (clusters (all_glyphs whole.result)) (start, stop) r
+    → ((n : ℕ) → Has (clusters (all_glyphs whole.text)) n → n < end) → IsFrom s start whole rest → IsUpTo s stop end rest line → HasGlyphsOf whole.result r line.result × HasClustersOf whole.result r line.result
+own_range law keeps s d end start stop whole rest line r ascii along some most early_safe late_safe exact bytes from to =
+    let falls = is_backward d in
+    let same = origin_numbers (all_glyphs whole.result) in
+    let order : IsInOrder falls (numbers (state_of whole.result).origins) = subst (IsInOrder falls) (sym same) along.order in
+    let early_may : start ≢ 0 → MayBeCutAt start (state_of whole.result) = λ first. safe_may d whole.result end start whole.is.placed first (λ e. absurd (omega (arith, some, most, e))) early_safe in
+    let late_may : stop ≢ end → MayBeCutAt stop (state_of whole.result) = λ last. safe_may d whole.result end stop whole.is.placed (λ e. absurd (omega (arith, some, e))) last late_safe in
+    let first = from_shown law keeps ascii s falls start whole rest from early_may order in
+    let within = from_within s start end whole rest from (λ n has. bytes n (subst (λ ns. Has ns n) (origin_numbers (all_glyphs whole.text)) has)) in
+    let second = to_shown law keeps ascii s falls stop end rest line to within (λ last. rest_may falls start stop (state_of whole.result) first.0 (state_of rest.result) first.1 (omega (arith, some)) (late_may last))
+    (rest_order falls start (state_of whole.result) first.0 (state_of rest.result) first.1 order) in
+    let range = line_range falls start stop (state_of whole.result) first.0 (state_of rest.result) (state_of line.result) second.0 first.1 second.1 (omega (arith, some)) r.start r.end exact.ordered
+    (subst (λ (ns : List ℕ). r.end ≤ length ns) (sym same) exact.within) (λ k n at. exact.exact k n (ap (λ ns. slice_get ns k) (sym same) ∙ at)) in
+    (record { glyphs = range.glyphs; positions = range.positions }, ap (λ ns. slice_range ns r.start r.end) (sym same) ∙ range.clusters ∙ origin_numbers (all_glyphs line.result))
+
 pub own_lines : SafeBreaks → TextsKeepNumbers → OwnLinesAreShapedAlone
 own_lines law keeps s d end breaks widths whole line ls l r ascii has text =
     let p = paragraph_by d whole.result end breaks widths in
-    let falls = is_backward d in
-    let gs = all_glyphs whole.result in
-    let same = origin_numbers gs in
     let inside : IsInText end l = All-contains (IsInText end) ls l (joined_within 0 end ls has.lines.joined) has.among in
-    let some = inside.0 in
-    let most = inside.1 in
     let is : IsLine p l = All-contains (IsLine p) ls l has.lines.each has.among in
     let glyphs : AreGlyphsOf p l (Some r) = subst (AreGlyphsOf p l) has.own is.glyphs in
-    let exact = glyphs.1 in
     let safe = and_parts (is_safe_at p.steps end l.start) (is_safe_at p.steps end l.end) glyphs.0 in
-    let order : IsInOrder falls (numbers (state_of whole.result).origins) = subst (IsInOrder falls) (sym same) has.line.order in
-    let early_may : l.start ≢ 0 → MayBeCutAt l.start (state_of whole.result) = λ start. safe_may d whole.result end l.start whole.is.placed start (λ e. absurd (omega (arith, some, most, e))) safe.0 in
-    let late_may : l.end ≢ end → MayBeCutAt l.end (state_of whole.result) = λ stop. safe_may d whole.result end l.end whole.is.placed (λ e. absurd (omega (arith, some, e))) stop safe.1 in
-    let first = from_shown law keeps ascii s falls l.start whole text.rest text.from early_may order in
-    let within = from_within s l.start end whole text.rest text.from (λ n has. text.bytes n (subst (λ ns. Has ns n) (origin_numbers (all_glyphs whole.text)) has)) in
-    let second = to_shown law keeps ascii s falls l.end end text.rest line text.to within (λ stop. rest_may falls l.start l.end (state_of whole.result) first.0 (state_of text.rest.result) first.1 (omega (arith, some)) (late_may stop))
-    (rest_order falls l.start (state_of whole.result) first.0 (state_of text.rest.result) first.1 order) in
-    let range = line_range falls l.start l.end (state_of whole.result) first.0 (state_of text.rest.result) (state_of line.result) second.0 first.1 second.1 (omega (arith, some)) r.start r.end exact.ordered
-    (subst (λ (ns : List ℕ). r.end ≤ length ns) (sym same) exact.within) (λ k n at. exact.exact k n (ap (λ ns. slice_get ns k) (sym same) ∙ at)) in
-    (record { glyphs = range.glyphs; positions = range.positions }, ap (λ ns. slice_range ns r.start r.end) (sym same) ∙ range.clusters ∙ origin_numbers (all_glyphs line.result))
+    own_range law keeps s d end l.start l.end whole text.rest line r ascii has.line inside.0 inside.1 safe.0 safe.1 glyphs.1 text.bytes text.from text.to
 
 -- ---- texts that differ only in clusters, level and requests for glyph flags
 
@@ -235,10 +240,15 @@ same_view : (reading : Reading) (a b x y : BufferState) → Follows reading a x 
 same_view (Ok r) a b x y first second = ap (λ (s : BufferState). s.view) first ∙ sym (ap (λ (s : BufferState). s.view) second)
 same_view (Err e) a b x y first second = absurd first
 
+-- and the results of two such texts
+pub alike_view : TextsReadAlike → (s : Setup) (one other : ShapedText s) → have_no_ranges s.features ≡ true → AreAlike one.text other.text → view_of one.result ≡ view_of other.result
+alike_view alike s one other plain like =
+    let read = alike s.font s.tables s.tags s.spans s.features one.text other.text plain like in
+    let P : Reading → Type 0 = λ ρ. Follows ρ (state_of one.text) (state_of one.result) in
+    same_view (text_reading (shaping_of s other.text) (state_of other.text)) (state_of one.text) (state_of other.text) (state_of one.result) (state_of other.result) (subst P read one.shaped) other.shaped
+
 pub own_lines_look : OwnLinesAreShapedAlone → TextsReadAlike → OwnLinesLookAlike
 own_lines_look law alike s d end breaks widths whole line other ls l r ascii has text plain like =
     let is = (law s d end breaks widths whole line ls l r ascii has text).0 in
-    let read = alike s.font s.tables s.tags s.spans s.features line.text other.text plain like in
-    let P : Reading → Type 0 = λ ρ. Follows ρ (state_of line.text) (state_of line.result) in
-    let same : view_of line.result ≡ view_of other.result = same_view (text_reading (shaping_of s other.text) (state_of other.text)) (state_of line.text) (state_of other.text) (state_of line.result) (state_of other.result) (subst P read line.shaped) other.shaped in
+    let same = alike_view alike s line other plain like in
     record { glyphs = is.glyphs ∙ ap (λ (v : View). glyph_numbers v.items) same; positions = is.positions ∙ ap (λ (v : View). v.positions) same }

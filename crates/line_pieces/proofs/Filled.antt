@@ -1,5 +1,5 @@
 -- Lines that are filled piece by piece.
-use Rattle.std.proofs.Common.{ℕ, ℤ, pos, ◌+◌, ◌≡◌, ◌≤◌, ◌<◌, ◌^◌, ◌==◌, ◌||◌, ◌-ℤ◌, ◌≤ℤ◌, ◌<ℤ◌, ◌⊎◌, Bool, true, false, if◌then◌else◌, List, [], ◌∷◌, ◌++◌, length, map, drop, get_or, arith, inl, inr, refl, sym, subst, ◌∙◌}
+use Rattle.std.proofs.Common.{ℕ, ℤ, pos, ◌+◌, ◌≡◌, ◌≤◌, ◌<◌, ◌^◌, ◌==◌, ◌-ℤ◌, ◌≤ℤ◌, ◌<ℤ◌, ◌⊎◌, Bool, true, false, if◌then◌else◌, List, [], ◌∷◌, ◌++◌, length, map, drop, get_or, arith, inl, inr, refl, sym, subst, ◌∙◌}
 use Rattle.std.specs.Prelude.{int_le}
 use Rattle.std.specs.List.{All}
 use Rattle.std.proofs.lemmas.Bool.{cases_lt}
@@ -15,6 +15,7 @@ use Rattle.kuspveli.specs.shaping_buffer.buffer_core.Sides.{Sides, all_glyphs}
 use Rattle.line_pieces.specs.declared.cuts.Cut.{Cut}
 use Rattle.line_pieces.specs.declared.filling.Frame.{Frame}
 use Rattle.line_pieces.specs.declared.lines.Line.{Line}
+use Rattle.line_pieces.specs.declared.steps.Step.{Step}
 use Rattle.line_pieces.specs.Breaks.{AreBreaks, AreBreaksTo}
 use Rattle.line_pieces.specs.Cuts.{IsCountedTo, IsCut, IsMeasured, IsPieceAdded, line_of, stays, with_line}
 use Rattle.line_pieces.specs.Lines.{AreLines, Fits, IsLine, IsNextEnd, MayEnd, Paragraph, byte_range, paragraph_by, width_between, width_from}
@@ -75,11 +76,11 @@ pub end_left : (p : Paragraph) (last : ℕ) → AreLeft p last [] → last < p.e
 end_left p last is before = record { may = inr refl; after = before; first = λ a may after. elim (is.later a may after) [ inl has ↦ cc | inr same ↦ omega (arith, same) ] }
 
 -- no line ends after the end of the text
-none_past : (p : Paragraph) (b : ℕ) → AreBreaksTo p.end 0 p.breaks → MayEnd p b → b ≤ p.end
+pub none_past : (p : Paragraph) (b : ℕ) → AreBreaksTo p.end 0 p.breaks → MayEnd p b → b ≤ p.end
 none_past p b is (inl has) = (break_after p.end 0 b p.breaks is has).1
 none_past p b is (inr same) = omega (arith, same)
 
-next_is_one : (p : Paragraph) (from a b : ℕ) → IsNextEnd p from a → IsNextEnd p from b → a ≡ b
+pub next_is_one : (p : Paragraph) (from a b : ℕ) → IsNextEnd p from a → IsNextEnd p from b → a ≡ b
 next_is_one p from a b one two = let le = one.first b two.may two.after in let ge = two.first a one.may one.after in omega (arith, le, ge)
 
 -- ---- lines so far
@@ -99,14 +100,15 @@ pub record IsFilling (p : Paragraph) (start last : Cut) (ls : List Line) (bs : L
   pub filled : IsFilledTo p start last ls
   pub left : AreLeft p last.byte bs
 
-joined_push : (from to : ℕ) (ls : List Line) (l : Line) → AreJoined from l.start (map byte_range ls) → l.start < l.end → l.end ≡ to → AreJoined from to (map byte_range (ls ++ l ∷ []))
-joined_push from to [] l joined some end = (sym joined, some, end)
-joined_push from to (k ∷ ls) l joined some end = (joined.0, joined.1, joined_push k.end to ls l joined.2 some end)
+-- neighbours, and one more after them
+pub joined_push : {X : Type 0} (f : X → ℕ × ℕ) (from to : ℕ) (ls : List X) (l : X) → AreJoined from (f l).0 (map f ls) → (f l).0 < (f l).1 → (f l).1 ≡ to → AreJoined from to (map f (ls ++ l ∷ []))
+joined_push f from to [] l joined some end = (sym joined, some, end)
+joined_push f from to (k ∷ ls) l joined some end = (joined.0, joined.1, joined_push f (f k).1 to ls l joined.2 some end)
 
-fits_if : (a b : ℤ) → int_le a b ≡ true → a ≤ℤ b
+pub fits_if : (a b : ℤ) → int_le a b ≡ true → a ≤ℤ b
 fits_if a b e = grind (arith, ints, e)
 
-over_if : (a b : ℤ) → int_le a b ≡ false → b <ℤ a
+pub over_if : (a b : ℤ) → int_le a b ≡ false → b <ℤ a
 over_if a b e = grind (arith, ints, e)
 
 other_from : (m n : ℕ) → (m == n) ≡ false → m ≤ n → m < n
@@ -148,7 +150,7 @@ module _ (p : Paragraph) (start last next : Cut) (ls : List Line) (line : Line) 
     ordered = let less = after.after in omega (arith, less);
     ends = inr after.may;
     fits = λ b may above le. inr (λ a other over. let least = after.first a other over in omega (arith, least, le));
-    joined = joined_push 0 last.byte ls l (subst (λ n. AreJoined 0 n (map byte_range ls)) (sym from) is.joined) (omega (arith, from, to, some)) to;
+    joined = joined_push byte_range 0 last.byte ls l (subst (λ n. AreJoined 0 n (map byte_range ls)) (sym from) is.joined) (omega (arith, from, to, some)) to;
     each = All-push (IsLine p) ls l is.each ended;
   }
 
@@ -167,28 +169,28 @@ counted d r f start last same all first second le =
     let within = second.walked.within in
     record { ordered = walked_ordered (text_steps d r) start.byte last.byte start.glyphs last.glyphs start.pen last.pen first.walked second.walked le; within = omega (arith, count, within, all) }
 
--- the cut before the text
+-- the cut before a text
+pub cut_first : (ss : List Step) (end : ℕ) → IsCut ss end (record { byte = 0; glyphs = 0; pen = pos 0; is_safe = true })
+cut_first ss end = record {
+  walked = record {
+    within = omega arith;
+    split = λ k s at. (λ less. absurd (omega (arith, less)), λ less. absurd (omega (arith, less)));
+    sum = refl;
+    bounded = record { low = omega arith; high = omega arith };
+  };
+  safe = refl;
+}
+
 pub first_filled : (p : Paragraph) (c : Cut) → c ≡ record { byte = 0; glyphs = 0; pen = pos 0; is_safe = true } → IsFilledTo p c c []
 first_filled p c same = let P : Cut → Type 0 = λ b. IsFilledTo p b b [] in subst P (sym same) (record {
-  first = is;
-  latest = is;
+  first = cut_first p.steps p.end;
+  latest = cut_first p.steps p.end;
   ordered = omega arith;
   ends = inl refl;
   fits = λ b may above le. absurd (omega (arith, above, le));
   joined = refl;
   each = λ k d within. absurd (omega (arith, within));
 })
-  where
-    is : IsCut p.steps p.end (record { byte = 0; glyphs = 0; pen = pos 0; is_safe = true })
-    is = record {
-      walked = record {
-        within = omega arith;
-        split = λ k s at. (λ less. absurd (omega (arith, less)), λ less. absurd (omega (arith, less)));
-        sum = refl;
-        bounded = record { low = omega arith; high = omega arith };
-      };
-      safe = refl;
-    }
 
 module _ (r : Sides) (f : Frame) (breaks : List ℕ) (same : length r.positions ≡ length (all_glyphs r)) (all : f.count ≡ length (all_glyphs r)) where
   abbrev p : Paragraph
@@ -248,4 +250,4 @@ module _ (r : Sides) (f : Frame) (breaks : List ℕ) (same : length r.positions 
       by_test false e pushed =
           let some = other_from start.byte last.byte e is.ordered in
           let line = ended_line start last ls is some (λ next other. let most = none_past p next rising other.may in let after = other.after in absurd (omega (arith, most, after, whole))) in
-          subst (AreLines p) (sym pushed) (record { joined = joined_push 0 f.end ls (line_of f start last) is.joined some whole; each = All-push (IsLine p) ls (line_of f start last) is.each line })
+          subst (AreLines p) (sym pushed) (record { joined = joined_push byte_range 0 f.end ls (line_of f start last) is.joined some whole; each = All-push (IsLine p) ls (line_of f start last) is.each line })

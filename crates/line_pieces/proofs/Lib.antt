@@ -3,8 +3,12 @@ pub mod TextOrder
 pub mod Walks
 pub mod Spans
 pub mod Filled
+pub mod Pieces
+pub mod LinesTaken
+pub mod Edited
 pub mod OneWay
 pub mod Shown
 pub mod Middles
 pub mod Rests
 pub mod Alone
+pub mod EditKept

@@ -30,7 +30,7 @@ passed_first ss before byte at pen is le = record {
   bounded = is.bounded;
 }
 
-bounded_more : (i : ℕ) (pen advance : ℤ) → IsBounded i pen → neg_ℤ (pos (2 ^ 31)) ≤ℤ advance → advance ≤ℤ pos (2 ^ 31) → IsBounded (i + 1) (pen +ℤ advance)
+pub bounded_more : (i : ℕ) (pen advance : ℤ) → IsBounded i pen → neg_ℤ (pos (2 ^ 31)) ≤ℤ advance → advance ≤ℤ pos (2 ^ 31) → IsBounded (i + 1) (pen +ℤ advance)
 bounded_more i pen advance is low high = record { low = low_more is.low; high = high_more is.high }
   where
     low_more : neg_ℤ (pos (2 ^ 31 * i)) ≤ℤ pen → neg_ℤ (pos (2 ^ 31 * (i + 1))) ≤ℤ (pen +ℤ advance)
@@ -40,7 +40,7 @@ bounded_more i pen advance is low high = record { low = low_more is.low; high = 
     high_more above = omega (arith, ints, above, high)
 
 -- in 64 bits the pen moves by the advance
-moved : (i : ℕ) (pen advance : ℤ) → i < 2 ^ 31 → neg_ℤ (pos (2 ^ 31 * i)) ≤ℤ pen → pen ≤ℤ pos (2 ^ 31 * i) → neg_ℤ (pos (2 ^ 31)) ≤ℤ advance → advance ≤ℤ pos (2 ^ 31) → to_z w64 (of_z w64 (pen +ℤ to_z w64 (of_z w64 advance))) ≡ pen +ℤ advance
+pub moved : (i : ℕ) (pen advance : ℤ) → i < 2 ^ 31 → neg_ℤ (pos (2 ^ 31 * i)) ≤ℤ pen → pen ≤ℤ pos (2 ^ 31 * i) → neg_ℤ (pos (2 ^ 31)) ≤ℤ advance → advance ≤ℤ pos (2 ^ 31) → to_z w64 (of_z w64 (pen +ℤ to_z w64 (of_z w64 advance))) ≡ pen +ℤ advance
 moved i pen advance few below above low high = omega (arith, ints, few, below, above, low, high)
 
 pub passed_more : (ss : List Step) (byte i : ℕ) (pen new : ℤ) (s : Step) → IsPassed ss byte i pen → slice_get ss i ≡ Some s → s.cluster < byte → i < 2 ^ 31 → neg_ℤ (pos (2 ^ 31)) ≤ℤ s.advance → s.advance ≤ℤ pos (2 ^ 31)

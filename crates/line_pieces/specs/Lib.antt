@@ -1,6 +1,11 @@
 pub mod Lines
 pub mod Steps
 pub mod Breaks
+pub mod FilledLines
+pub mod Edits
 pub mod Cuts
+pub mod LinesInHand
+pub mod EditsInHand
 pub mod Laws
 pub mod Alone
+pub mod EditLaws

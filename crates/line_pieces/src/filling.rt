@@ -7,7 +7,8 @@ ghost use Rattle.kuspveli.specs.shaping_buffer.buffer_core.Sides.{all_glyphs};
 ghost use Rattle.line_pieces.specs.Breaks.{AreBreaksTo};
 ghost use Rattle.line_pieces.specs.Cuts.{IsCountedTo, IsMeasured, IsPieceAdded};
 ghost use Rattle.line_pieces.specs.Cuts.{glyph_range, line_of, own_glyphs, stays, with_line};
-ghost use Rattle.line_pieces.specs.Lines.{AreLines, CanBeCut, CanBeCutTo, IsFaultOf, IsFaultTo, paragraph_by, paragraph_of, width_from};
+ghost use Rattle.line_pieces.specs.LinesInHand.{IsPage};
+ghost use Rattle.line_pieces.specs.Lines.{AreLines, CanBeCut, CanBeCutTo, IsFaultOf, IsFaultTo, paragraph_by, paragraph_of, same_widths, width_from};
 
 use crate::cuts::{Cut, cut_at, first_cut};
 use crate::lines::{GlyphRange, Line, LineFault, Widths};
@@ -18,19 +19,18 @@ use std::alloc::{AllocError, Global};
 /// How a paragraph is cut into lines.
 #[derive(Clone, Copy)]
 pub struct Frame {
-    direction: Direction,
+    pub direction: Direction,
     /// How many glyphs the paragraph has.
-    count: usize,
+    pub count: usize,
     /// How many bytes its text has, or other units.
-    end: usize,
-    widths: Widths,
+    pub end: usize,
+    pub widths: Widths,
 }
 
 /// Cuts a paragraph into lines. `glyphs` is what shaping the whole text along the direction gave, where safe breaks
 /// were requested; a line may end at each of `breaks`, which are indices of bytes of the text (those of UAX 14), and at
 /// the end of the text. A line takes the pieces between these as long as they fit the width, in font units, and one at
 /// least. `LineFault` says why none is cut.
-#[tactic(auto, using(crate::proofs::Filled::breaks_to_end))]
 pub fn cut_lines(
     alloc: Global,
     glyphs: &GlyphBuffer,
@@ -44,6 +44,30 @@ pub fn cut_lines(
     ensures may { OnOk result (CanBeCut direction glyphs.now text.now breaks.now) }
     ensures fault { IfErr result (IsFaultOf direction glyphs.now text.now breaks.now) }
 {
+    let frame = frame_of(glyphs, text, direction, breaks, width)?;
+    let lines = lines_of_pieces(alloc, glyphs, frame, breaks)?;
+    Ok(lines)
+}
+
+/// How a paragraph is cut into lines that are all to fit one width, if it can be cut.
+#[tactic(auto, using(crate::proofs::Filled::breaks_to_end))]
+pub(crate) fn frame_of(
+    glyphs: &GlyphBuffer,
+    text: &str,
+    direction: Direction,
+    breaks: &[usize],
+    width: i64,
+) -> Result<Frame, LineFault>
+    ensures may { OnOk result (CanBeCut direction glyphs.now text.now breaks.now) }
+    ensures page { IfOk result (λ frame. IsPage glyphs.now frame breaks.now) }
+    ensures frame { IfOk result (λ frame. frame ≡ record {
+      direction = direction;
+      count = length (all_glyphs glyphs.now);
+      end = length text.now;
+      widths = same_widths width;
+    }) }
+    ensures fault { IfErr result (IsFaultOf direction glyphs.now text.now breaks.now) }
+{
     if glyphs.len() > i32::MAX as usize {
         return Err(LineFault::TooManyGlyphs);
     }
@@ -53,7 +77,7 @@ pub fn cut_lines(
     if !are_breaks(text, breaks) {
         return Err(LineFault::InvalidBreaks);
     }
-    let frame = Frame {
+    Ok(Frame {
         direction,
         // as many as there are glyphs
         count: glyphs.glyph_positions().len(),
@@ -62,9 +86,7 @@ pub fn cut_lines(
             first: width,
             rest: width,
         },
-    };
-    let lines = fill_lines(alloc, glyphs, frame, breaks)?;
-    Ok(lines)
+    })
 }
 
 /// Cuts a paragraph into lines, as `cut_lines` does, by indices of the units that its clusters are of, as of UTF-16: its
@@ -97,12 +119,12 @@ pub fn cut_unit_lines(
         end,
         widths,
     };
-    let lines = fill_lines(alloc, glyphs, frame, breaks)?;
+    let lines = lines_of_pieces(alloc, glyphs, frame, breaks)?;
     Ok(lines)
 }
 
 /// Fills one line after another.
-fn fill_lines(
+fn lines_of_pieces(
     alloc: Global,
     glyphs: &GlyphBuffer,
     frame: Frame,
@@ -158,7 +180,7 @@ fn add_piece(
 }
 
 /// The width that a line is to fit, by the byte at which it begins.
-fn width_from(widths: Widths, start: usize) -> i64
+pub(crate) fn width_from(widths: Widths, start: usize) -> i64
     ensures { result ≡ width_from widths start }
 {
     if start == 0 {
@@ -169,7 +191,7 @@ fn width_from(widths: Widths, start: usize) -> i64
 }
 
 /// Whether a piece stays in the line: it is the first one, or the line fits the width with it.
-fn stays(width: i64, start: Cut, last: Cut, next: Cut) -> bool
+pub(crate) fn stays(width: i64, start: Cut, last: Cut, next: Cut) -> bool
     requires start { IsMeasured start }
     requires next { IsMeasured next }
     ensures { result ≡ stays width start last next }
@@ -218,7 +240,7 @@ fn own_glyphs(frame: Frame, start: Cut, end: Cut) -> Option<GlyphRange>
 }
 
 /// The glyphs from one to another index in the order of the text.
-fn glyph_range(frame: Frame, from: usize, to: usize) -> GlyphRange
+pub(crate) fn glyph_range(frame: Frame, from: usize, to: usize) -> GlyphRange
     requires ordered { from ≤ to }
     requires within { to ≤ frame.count }
     ensures { result ≡ glyph_range frame from to }

@@ -7,9 +7,13 @@
 //!   `push_str` for `law_own_lines_look_alike`. The line's text has the direction, the script, the language and the
 //!   flags of the paragraph's, but BEGINNING_OF_TEXT and END_OF_TEXT at the ends of the paragraph alone; and the text
 //!   before it and after it as its contexts.
+//! - An edit (`IsEdited`): `edit_range` answered its bytes. The text up to them is one for both (`IsFrontOfBoth`), and those
+//!   after them differ in clusters alone (`AreRestsOfBoth`), where the shaper reads no contexts, or where the edit is past the
+//!   nearest letter on either side.
 //! - The cuts (`IsCutAt`), as `kuspveli::laws::breaks::break_laws` lists it for each: the paragraph's text is cut at the
 //!   line's start, and what is left at the line's end. At an end of the paragraph there is no cut.
 ghost use Rattle.line_pieces.specs.Alone.{OwnLinesAreShapedAlone, OwnLinesLookAlike};
+ghost use Rattle.line_pieces.specs.EditLaws.{EditKeepsTheFront, EditKeepsTheRest};
 ghost use Rattle.line_pieces.specs.Laws.{FlagsShowSafeBreaks, LinesAreOne, LinesAreText};
 
 use kuspveli::laws::breaks::break_laws::law_safe_breaks;
@@ -48,5 +52,16 @@ pub fn law_own_lines_look_alike()
     ensures { OwnLinesLookAlike }
 {
     law_own_lines_are_shaped_alone();
+    law_texts_read_alike();
+}
+
+/// Outside of the bytes that `edit_range` answers, the glyphs of the text before the edit and after it are the same, at the same
+/// positions; before these also with the same clusters.
+pub fn law_edit_keeps_the_rest()
+    ensures front { EditKeepsTheFront }
+    ensures rest { EditKeepsTheRest }
+{
+    law_safe_breaks();
+    law_texts_keep_numbers();
     law_texts_read_alike();
 }

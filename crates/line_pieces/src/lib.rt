@@ -4,13 +4,21 @@
 #![tactic(auto)]
 
 mod cuts;
+#[cfg(test)]
+mod edit_rows;
+mod edits;
 mod filling;
 pub mod laws;
 mod lines;
 #[cfg(test)]
 mod rows;
+mod shaped_lines;
+mod shapes_lines;
 mod steps;
 mod tests_of_order;
 
+pub use edits::{Edit, EditRange, edit_range};
 pub use filling::{cut_lines, cut_unit_lines};
-pub use lines::{GlyphRange, Line, LineFault, Widths};
+pub use lines::{FillFault, FilledLine, GlyphRange, Line, LineFault, LineGlyphs, Widths};
+pub use shaped_lines::fill_lines;
+pub use shapes_lines::ShapesLines;

@@ -2,6 +2,7 @@
 //!
 //! As each error type of the workspace `LineFault` has conversions from want of memory of its own: rt takes no impl
 //! that a macro of a repository writes.
+use kuspveli::GlyphBuffer;
 use std::alloc::AllocError;
 use thiserror::Error;
 
@@ -33,6 +34,27 @@ pub struct Line {
     pub glyphs: Option<GlyphRange>,
 }
 
+/// A line of a paragraph with the glyphs that it has in the end.
+#[derive(Drop)]
+pub struct FilledLine {
+    /// The index of its first byte.
+    pub start: usize,
+    /// The index after its last one.
+    pub end: usize,
+    /// The sum of the advances of its glyphs.
+    pub width: i64,
+    pub glyphs: LineGlyphs,
+}
+
+/// The glyphs of a line.
+#[derive(Drop)]
+pub enum LineGlyphs {
+    /// Those that the paragraph has of the line's bytes.
+    Own(GlyphRange),
+    /// What shaping the line's text again gave, with the clusters that it gave.
+    Shaped(GlyphBuffer),
+}
+
 /// Why a paragraph isn't cut into lines.
 #[derive(Clone, Copy, PartialEq, Eq, Debug, Error)]
 pub enum LineFault {
@@ -58,5 +80,38 @@ impl From<AllocError> for LineFault {
 
     fn from(_error: AllocError) -> LineFault {
         LineFault::OutOfMemory
+    }
+}
+
+/// Why lines aren't filled: the paragraph can't be cut into some, or a line's text isn't shaped again.
+#[derive(Clone, Copy, PartialEq, Eq, Debug)]
+pub enum FillFault<F> {
+    Cut(LineFault),
+    /// The fault of whatever shapes lines.
+    Shape(F),
+    /// The text of a line, shaped again, has 2^31 glyphs or more, so a sum of their advances might not fit.
+    TooManyGlyphs,
+}
+
+impl<F> From<LineFault> for FillFault<F> {
+    ghost use Rattle.std.specs.Prelude.{◌≡◌};
+    ghost use Rattle.line_pieces.specs.declared.lines.FillFault.TheVariants.{Cut};
+
+    ghost from_gives = { λ fault e. e ≡ Cut fault };
+
+    fn from(fault: LineFault) -> FillFault<F> {
+        FillFault::Cut(fault)
+    }
+}
+
+impl<F> From<AllocError> for FillFault<F> {
+    ghost use Rattle.std.specs.Prelude.{◌≡◌};
+    ghost use Rattle.line_pieces.specs.declared.lines.FillFault.TheVariants.{Cut};
+    ghost use Rattle.line_pieces.specs.declared.lines.LineFault.TheVariants.{OutOfMemory};
+
+    ghost from_gives = { λ _ e. e ≡ Cut OutOfMemory };
+
+    fn from(_error: AllocError) -> FillFault<F> {
+        FillFault::Cut(LineFault::OutOfMemory)
     }
 }

@@ -1,5 +1,8 @@
 //! Lines of a few paragraphs by hand: clusters, advances and flags of glyphs, and what they are cut into.
-use crate::{Line, LineFault, Widths, cut_lines, cut_unit_lines};
+use crate::{
+    FillFault, FilledLine, Line, LineFault, LineGlyphs, ShapesLines, Widths, cut_lines,
+    cut_unit_lines, fill_lines,
+};
 use kuspveli::{Direction, GlyphBuffer, GlyphInfo, GlyphPosition, UnicodeBuffer};
 use std::alloc::{AllocError, Global};
 use std::process::Abort;
@@ -7,15 +10,15 @@ use std::test::Fail;
 
 /// A text of a direction, with the clusters and advances of its glyphs, and those that are unsafe to break before.
 #[derive(Clone, Copy)]
-struct Row<'a> {
+pub(crate) struct Row<'a> {
     text: &'a str,
-    direction: Direction,
+    pub(crate) direction: Direction,
     clusters: &'a [u32],
     advances: &'a [i32],
     is_unsafe: &'a [bool],
 }
 
-const fn make_row<'a>(
+pub(crate) const fn make_row<'a>(
     text: &'a str,
     direction: Direction,
     clusters: &'a [u32],
@@ -38,6 +41,15 @@ const FORWARD: Row<'static> = Row {
     clusters: &[0, 1, 2, 3, 4],
     advances: &[500, 600, 250, 500, 600],
     is_unsafe: &[],
+};
+
+/// Four letters, the third of which is unsafe to break before.
+const KERNED: Row<'static> = Row {
+    text: "abcd",
+    direction: Direction::LeftToRight,
+    clusters: &[0, 1, 2, 3],
+    advances: &[500, 500, 500, 500],
+    is_unsafe: &[false, false, true, false],
 };
 
 /// A ligature of the second and the third of four letters.
@@ -67,7 +79,7 @@ fn set_flags(infos: &mut [GlyphInfo], flags: &[bool]) {
     }
 }
 
-fn glyphs_of(alloc: Global, row: Row<'_>) -> Result<GlyphBuffer, AllocError> {
+pub(crate) fn glyphs_of(alloc: Global, row: Row<'_>) -> Result<GlyphBuffer, AllocError> {
     let mut text = UnicodeBuffer::new(alloc);
     for cluster in row.clusters {
         let _added = text.add('x', *cluster)?;
@@ -190,6 +202,246 @@ fn has_fault(
     };
     assert!(rt; found == Some(want));
     Ok(())
+}
+
+/// The bytes of a line, and the advances of the glyphs that shaping its text again gives.
+type Again<'a> = (usize, usize, &'a [i32]);
+
+/// Shapes the lines of some rows, each glyph a cluster of the line's own text.
+#[derive(Clone, Copy)]
+struct Shaper<'a> {
+    alloc: Global,
+    direction: Direction,
+    rows: &'a [Again<'a>],
+}
+
+/// Why a line of these tests isn't shaped.
+#[derive(Clone, Copy, PartialEq, Eq, Debug)]
+enum NotShaped {
+    OutOfMemory,
+    NoRow,
+}
+
+impl From<AllocError> for NotShaped {
+    fn from(_error: AllocError) -> NotShaped {
+        NotShaped::OutOfMemory
+    }
+}
+
+impl ShapesLines for Shaper<'_> {
+    type Fault = NotShaped;
+
+    ghost IsShapedLine = { λ shaper from to glyphs. Unit {0} };
+
+    ghost IsRefusedLine = { λ shaper from to fault. Unit {0} };
+
+    fn shape_line(&self, start: usize, end: usize) -> Result<GlyphBuffer, NotShaped> {
+        for (from, to, advances) in self.rows {
+            if *from == start && *to == end {
+                let clusters = &[0, 1, 2, 3, 4][..advances.len().min(5)];
+                let row = make_row("", self.direction, clusters, advances, &[]);
+                return Ok(glyphs_of(self.alloc, row)?);
+            }
+        }
+        Err(NotShaped::NoRow)
+    }
+}
+
+/// A filled line's bytes, its width, and the indices of its own glyphs or the number of those shaped again.
+fn push_filled(text: &mut String, line: &FilledLine) -> Result<(), AllocError> {
+    let (start, end, width) = (line.start, line.end, line.width);
+    if !text.is_empty() {
+        text.push(' ')?;
+    }
+    write!(text, "{start}-{end}@{width}")?;
+    match &line.glyphs {
+        LineGlyphs::Own(range) => {
+            let (first, last) = (range.start, range.end);
+            write!(text, "={first}-{last}")
+        }
+        LineGlyphs::Shaped(glyphs) => {
+            let count = glyphs.len();
+            write!(text, "~{count}")
+        }
+    }
+}
+
+fn fill(
+    alloc: Global,
+    row: Row<'_>,
+    breaks: &[usize],
+    width: i64,
+    again: &[Again<'_>],
+) -> Result<Result<Vec<FilledLine>, FillFault<NotShaped>>, AllocError> {
+    let glyphs = glyphs_of(alloc, row)?;
+    let shaper = Shaper {
+        alloc,
+        direction: row.direction,
+        rows: again,
+    };
+    Ok(fill_lines(
+        alloc,
+        &shaper,
+        &glyphs,
+        row.text,
+        row.direction,
+        breaks,
+        width,
+    ))
+}
+
+fn has_filled(
+    rt: &impl Abort,
+    alloc: Global,
+    row: Row<'_>,
+    breaks: &[usize],
+    width: i64,
+    again: &[Again<'_>],
+    want: &str,
+) -> Result<(), Fail> {
+    let mut text = String::new(alloc);
+    match fill(alloc, row, breaks, width, again)? {
+        Ok(lines) => {
+            for line in &lines {
+                push_filled(&mut text, line)?;
+            }
+        }
+        Err(FillFault::Cut(LineFault::OutOfMemory) | FillFault::Shape(NotShaped::OutOfMemory)) => {
+            return Err(Fail::from(LineFault::OutOfMemory));
+        }
+        Err(FillFault::Cut(fault)) => write!(text, "{fault}")?,
+        Err(FillFault::Shape(NotShaped::NoRow)) => text.push_str("not shaped")?,
+        Err(FillFault::TooManyGlyphs) => text.push_str("a line of too many glyphs")?,
+    }
+    assert_eq!(rt; text.as_str(), want);
+    Ok(())
+}
+
+#[test]
+fn lines_are_cut_by_what_they_have(rt: HostRuntime) -> Result<(), Fail> {
+    let alloc = rt.alloc();
+    // lines between safe breaks aren't shaped again, nor is a line with its next piece up to a safe break
+    let both = "0-3@1350=0-3 3-5@1100=3-5";
+    has_filled(&rt, alloc, FORWARD, &[3], 1400, &[], both)?;
+    has_filled(&rt, alloc, FORWARD, &[3, 5], 100, &[], both)?;
+    has_filled(&rt, alloc, FORWARD, &[3], 2450, &[], "0-5@2450=0-5")?;
+    let empty = make_row("", Direction::LeftToRight, &[], &[], &[]);
+    has_filled(&rt, alloc, empty, &[], 1000, &[], "")?;
+    // the paragraph has 1000 units for two letters, which shaped again are wider than the line
+    let wider: [Again<'_>; 1] = [(0, 2, &[500, 510])];
+    let three = "0-1@500=0-1 1-3@1000=1-3 3-4@500=3-4";
+    has_filled(&rt, alloc, KERNED, &[1, 2, 3], 1000, &wider, three)?;
+    // or as wide as the line
+    let fits: [Again<'_>; 2] = [(0, 2, &[500, 500]), (2, 4, &[400, 500])];
+    let two = "0-2@1000~2 2-4@900~2";
+    has_filled(&rt, alloc, KERNED, &[2], 1000, &fits, two)?;
+    has_filled(&rt, alloc, KERNED, &[2], 1999, &fits, two)
+}
+
+#[test]
+fn narrower_lines_take_more(rt: HostRuntime) -> Result<(), Fail> {
+    let alloc = rt.alloc();
+    let row = make_row(
+        "abcd",
+        Direction::LeftToRight,
+        &[0, 1, 2, 3],
+        &[500, 500, 500, 500],
+        &[false, false, true, true],
+    );
+    // three letters have 1500 units in the paragraph, and 1380 as a line; all four have 2000
+    let again: [Again<'_>; 4] = [
+        (0, 2, &[450, 450]),
+        (0, 3, &[450, 450, 480]),
+        (3, 4, &[510]),
+        (2, 4, &[500, 510]),
+    ];
+    has_filled(
+        &rt,
+        alloc,
+        row,
+        &[2, 3],
+        1400,
+        &again,
+        "0-3@1380~3 3-4@510~1",
+    )?;
+    has_filled(
+        &rt,
+        alloc,
+        row,
+        &[2, 3],
+        1379,
+        &again,
+        "0-2@900~2 2-4@1010~2",
+    )
+}
+
+#[test]
+fn one_piece_may_be_wider(rt: HostRuntime) -> Result<(), Fail> {
+    let alloc = rt.alloc();
+    let one: [Again<'_>; 2] = [(0, 2, &[500, 510]), (2, 4, &[500, 500])];
+    has_filled(&rt, alloc, KERNED, &[2], 900, &one, "0-2@1010~2 2-4@1000~2")?;
+    // two pieces are too wide, and so is the first alone
+    let row = make_row(
+        "abcd",
+        Direction::LeftToRight,
+        &[0, 1, 2, 3],
+        &[500, 500, 500, 500],
+        &[false, true, true, false],
+    );
+    let again: [Again<'_>; 5] = [
+        (0, 1, &[1020]),
+        (0, 2, &[500, 510]),
+        (1, 2, &[500]),
+        (1, 4, &[500, 500, 501]),
+        (2, 4, &[500, 500]),
+    ];
+    let three = "0-1@1020~1 1-2@500~1 2-4@1000~2";
+    has_filled(&rt, alloc, row, &[1, 2], 1000, &again, three)
+}
+
+#[test]
+fn other_directions_are_filled(rt: HostRuntime) -> Result<(), Fail> {
+    let alloc = rt.alloc();
+    let backward = make_row(
+        "ab cd",
+        Direction::RightToLeft,
+        &[4, 3, 2, 1, 0],
+        &[600, 500, 250, 600, 500],
+        &[false, true],
+    );
+    let again: [Again<'_>; 2] = [(0, 3, &[250, 610, 500]), (3, 5, &[600, 510])];
+    let two = "0-3@1360~3 3-5@1110~2";
+    has_filled(&rt, alloc, backward, &[3], 1400, &again, two)?;
+    has_filled(&rt, alloc, backward, &[3], 2450, &[], "0-5@2450=0-5")?;
+    // downward, where advances are below zero
+    let downward = make_row(
+        "ab",
+        Direction::TopToBottom,
+        &[0, 1],
+        &[-1000, -900],
+        &[false, true],
+    );
+    let again: [Again<'_>; 2] = [(0, 1, &[-990]), (1, 2, &[-900])];
+    has_filled(
+        &rt,
+        alloc,
+        downward,
+        &[1],
+        1000,
+        &again,
+        "0-1@990~1 1-2@900~1",
+    )
+}
+
+#[test]
+fn lines_that_are_not_filled(rt: HostRuntime) -> Result<(), Fail> {
+    let alloc = rt.alloc();
+    let some: [Again<'_>; 1] = [(0, 2, &[500, 510])];
+    has_filled(&rt, alloc, KERNED, &[2], 1000, &some, "not shaped")?;
+    has_filled(&rt, alloc, KERNED, &[2], 1000, &[], "not shaped")?;
+    has_filled(&rt, alloc, KERNED, &[2, 2], 1000, &some, "invalid breaks")?;
+    let turned = make_row("ab", Direction::LeftToRight, &[1, 0], &[500, 600], &[]);
+    has_filled(&rt, alloc, turned, &[0], 1000, &[], "clusters out of order")
 }
 
 #[test]

@@ -54,7 +54,7 @@ fn step_of(direction: Direction, info: GlyphInfo, position: GlyphPosition) -> St
 }
 
 /// The advance of a glyph along its line; on a vertical line downward, where positions fall.
-fn advance_along(direction: Direction, position: GlyphPosition) -> i64
+pub(crate) fn advance_along(direction: Direction, position: GlyphPosition) -> i64
     ensures advance { result ≡ advance_along direction position }
     ensures low { neg_ℤ (pos (2 ^ 31)) ≤ℤ result }
     ensures high { result ≤ℤ pos (2 ^ 31) }

@@ -1,7 +1,7 @@
 //! paragraph_example FONT TEXT WIDTH: sets a paragraph in lines of a width in font units, over the crates `kuspveli` and
 //! `line_pieces` alone; FONT is a font file. The paragraph is shaped once; a line that may not have its glyphs is shaped
-//! again. All lines are printed at once, at the end. Where something is wrong none is: a line on standard error says
-//! what, and of which word.
+//! again, and cut by the width that it has then. All lines are printed at once, at the end. Where something is wrong none
+//! is: a line on standard error says what, and of which word.
 #![tactic(auto)]
 
 use kuspveli::{
@@ -9,7 +9,7 @@ use kuspveli::{
     LanguageTable, RunFault, Script, ShapeCause, SyllableTable, TextTables, UnicodeBuffer,
     default_tables, hb_shape_data_t, read_font, shape,
 };
-use line_pieces::{Line, LineFault, cut_lines};
+use line_pieces::{FillFault, FilledLine, LineFault, LineGlyphs, ShapesLines, fill_lines};
 use std::alloc::{AllocError, Global};
 use std::process::ExitCode;
 use std::{env, fs, io};
@@ -54,12 +54,35 @@ struct Setup<'a> {
     data: hb_shape_data_t<'a, SyllableTable, LanguageTable>,
 }
 
-/// A paragraph of one script, along one direction.
+/// A paragraph of one script, along one direction, and what it is shaped with.
 #[derive(Clone, Copy)]
 struct Paragraph<'a> {
+    setup: Setup<'a>,
     text: &'a str,
     script: Option<Script>,
     direction: Direction,
+}
+
+impl ShapesLines for Paragraph<'_> {
+    type Fault = WordFault;
+
+    // nothing is proved here of what shaping a line gives
+    ghost IsShapedLine = { λ paragraph from to glyphs. Unit {0} };
+
+    ghost IsRefusedLine = { λ paragraph from to fault. Unit {0} };
+
+    /// Shapes the text of a line, between the texts before and after it.
+    fn shape_line(&self, start: usize, end: usize) -> Result<GlyphBuffer, WordFault> {
+        let text = self.text.get(start..end).unwrap_or("");
+        let mut buffer = text_buffer(self.setup.alloc, text)?;
+        if let Some(script) = self.script {
+            buffer.set_script(script);
+        }
+        buffer.set_direction(self.direction);
+        buffer.set_pre_context(self.text.get(..start).unwrap_or(""));
+        buffer.set_post_context(self.text.get(end..).unwrap_or(""));
+        shape_buffer(self.setup, buffer)
+    }
 }
 
 fn main(rt: HostRuntime) -> ExitCode {
@@ -156,41 +179,59 @@ fn set_text(setup: Setup<'_>, text: &str, width: i64) -> Result<String, WordFaul
     let mut buffer = text_buffer(setup.alloc, text)?;
     buffer.set_flags(BufferFlags::PRODUCE_SAFE_BREAKS);
     let paragraph = Paragraph {
+        setup,
         text,
         script: buffer.guessed_script(),
         direction: buffer.guessed_direction(),
     };
     let glyphs = shape_buffer(setup, buffer)?;
-    set_lines(setup, paragraph, &glyphs, width)
+    set_lines(paragraph, &glyphs, width)
 }
 
-/// Cuts a paragraph into lines.
+/// Fills the lines of a paragraph.
 fn set_lines(
-    setup: Setup<'_>,
     paragraph: Paragraph<'_>,
     glyphs: &GlyphBuffer,
     width: i64,
 ) -> Result<String, WordFault> {
     let Paragraph {
+        setup,
         text,
         direction,
         ..
     } = paragraph;
     let breaks = bytes_after_spaces(setup.alloc, text)?;
-    let lines = cut_lines(setup.alloc, glyphs, text, direction, &breaks, width)?;
-    show_lines(setup, paragraph, glyphs, &lines)
+    let lines = fill_lines(
+        setup.alloc,
+        &paragraph,
+        glyphs,
+        text,
+        direction,
+        &breaks,
+        width,
+    );
+    let lines = lines.map_err(fault_of)?;
+    show_lines(paragraph, glyphs, &lines)
+}
+
+/// Why lines aren't filled, as the fault of a text.
+fn fault_of(fault: FillFault<WordFault>) -> WordFault {
+    match fault {
+        FillFault::Cut(fault) => WordFault::Cut(fault),
+        FillFault::Shape(fault) => fault,
+        FillFault::TooManyGlyphs => WordFault::Cut(LineFault::TooManyGlyphs),
+    }
 }
 
 /// Prints lines into a text.
 fn show_lines(
-    setup: Setup<'_>,
     paragraph: Paragraph<'_>,
     glyphs: &GlyphBuffer,
-    lines: &[Line],
+    lines: &[FilledLine],
 ) -> Result<String, WordFault> {
-    let mut shown = String::new(setup.alloc);
+    let mut shown = String::new(paragraph.setup.alloc);
     for line in lines {
-        push_line(&mut shown, setup, paragraph, glyphs, *line)?;
+        push_line(&mut shown, paragraph.text, glyphs, line)?;
     }
     Ok(shown)
 }
@@ -206,41 +247,26 @@ fn bytes_after_spaces(alloc: Global, text: &str) -> Result<Vec<usize>, AllocErro
     Ok(bytes)
 }
 
-/// Appends the text of a line, and its glyphs: those of the paragraph, or what shaping the text again gives.
+/// Appends the text of a line, and its glyphs: those of the paragraph, or what shaping the text again gave.
 fn push_line(
     shown: &mut String,
-    setup: Setup<'_>,
-    paragraph: Paragraph<'_>,
-    glyphs: &GlyphBuffer,
-    line: Line,
-) -> Result<(), WordFault> {
-    let text = paragraph.text.get(line.start..line.end).unwrap_or("");
-    let Some(own) = line.glyphs else {
-        write!(shown, "\"{text}\" shaped again")?;
-        let glyphs = shape_line(setup, paragraph, line, text)?;
-        return push_glyphs(shown, glyphs.glyph_infos(), glyphs.glyph_positions());
-    };
-    let infos = glyphs.glyph_infos().get(own.start..own.end);
-    let positions = glyphs.glyph_positions().get(own.start..own.end);
-    write!(shown, "\"{text}\" own")?;
-    push_glyphs(shown, infos.unwrap_or(&[]), positions.unwrap_or(&[]))
-}
-
-/// Shapes the text of a line, between the texts before and after it.
-fn shape_line(
-    setup: Setup<'_>,
-    paragraph: Paragraph<'_>,
-    line: Line,
     text: &str,
-) -> Result<GlyphBuffer, WordFault> {
-    let mut buffer = text_buffer(setup.alloc, text)?;
-    if let Some(script) = paragraph.script {
-        buffer.set_script(script);
+    glyphs: &GlyphBuffer,
+    line: &FilledLine,
+) -> Result<(), WordFault> {
+    let text = text.get(line.start..line.end).unwrap_or("");
+    match &line.glyphs {
+        LineGlyphs::Own(own) => {
+            let infos = glyphs.glyph_infos().get(own.start..own.end);
+            let positions = glyphs.glyph_positions().get(own.start..own.end);
+            write!(shown, "\"{text}\" own")?;
+            push_glyphs(shown, infos.unwrap_or(&[]), positions.unwrap_or(&[]))
+        }
+        LineGlyphs::Shaped(glyphs) => {
+            write!(shown, "\"{text}\" shaped again")?;
+            push_glyphs(shown, glyphs.glyph_infos(), glyphs.glyph_positions())
+        }
     }
-    buffer.set_direction(paragraph.direction);
-    buffer.set_pre_context(paragraph.text.get(..line.start).unwrap_or(""));
-    buffer.set_post_context(paragraph.text.get(line.end..).unwrap_or(""));
-    shape_buffer(setup, buffer)
 }
 
 /// A buffer with the characters of a text.

@@ -1,6 +1,6 @@
 use Rattle.std.proofs.Common.{arith}
 use Rattle.line_pieces.proofs.Filled.{counted, filling_more, last_piece, lines_whole, measured}
-use Rattle.line_pieces.proofs.filling.fill_lines.Goals as goal
+use Rattle.line_pieces.proofs.filling.lines_of_pieces.Goals as goal
 
 pub add_piece-requires-clause-start : goal.add_piece-requires-clause-start
 add_piece-requires-clause-start c = measured c.args.frame.direction c.args.glyphs.now c.args.frame.end c.args.frame.count c.loop-byte.start c.requires.positions c.requires.count c.requires.few c.loop-byte.invariant.filled.first

@@ -1,7 +1,7 @@
 use Rattle.std.proofs.Common.{drop}
 use Rattle.line_pieces.specs.Lines.{paragraph_by}
 use Rattle.line_pieces.proofs.Filled.{IsFilling}
-use Rattle.line_pieces.proofs.filling.fill_lines.Given as goal
+use Rattle.line_pieces.proofs.filling.lines_of_pieces.Given as goal
 
 -- lines so far, one that is being filled, and the breaks that are left
 abbrev pub invariant-loop-byte : goal.invariant-loop-byte
