@@ -1,0 +1,9 @@
+pub mod Widths
+pub mod Joining
+pub mod Glyphs
+pub mod Covered
+pub mod Shared
+pub mod Made
+pub mod Texts
+pub mod OneRun
+pub mod Graphemes
